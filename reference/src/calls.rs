@@ -1,0 +1,85 @@
+//! The calls of one implementation, so that several can run the same script.
+
+use crate::hand::Handled;
+use crate::lines::Reported;
+use crate::list::Checked;
+use crate::run::Ran;
+use crate::sheet::Opened;
+use crate::state::WorkState;
+use crate::{fast, lines, list, pass, run, sheet, state, sweep};
+
+pub trait Calls {
+    fn open(&self, sheet: &[u8], limit: u64) -> Opened;
+    fn sweep(&self, state: WorkState) -> Handled;
+    fn pass(&self, state: WorkState, seed: u64) -> Handled;
+    fn run(&self, state: WorkState, budget: u32) -> Ran;
+    fn list_check(&self, state: &WorkState, numbers: &[u8]) -> Checked;
+    fn report(&self, state: &WorkState, buffer: &mut [u8]) -> Reported;
+    fn bad(&self, state: &WorkState) -> bool;
+}
+
+/// The calls over plain sets.
+pub struct Plain;
+
+/// The calls over words of bits.
+pub struct Fast;
+
+impl Calls for Plain {
+    fn open(&self, sheet: &[u8], limit: u64) -> Opened {
+        sheet::open(sheet, limit)
+    }
+
+    fn sweep(&self, state: WorkState) -> Handled {
+        sweep::sweep(state)
+    }
+
+    fn pass(&self, state: WorkState, seed: u64) -> Handled {
+        pass::pass(state, seed)
+    }
+
+    fn run(&self, state: WorkState, budget: u32) -> Ran {
+        run::run(state, budget)
+    }
+
+    fn list_check(&self, state: &WorkState, numbers: &[u8]) -> Checked {
+        list::list_check(state, numbers)
+    }
+
+    fn report(&self, state: &WorkState, buffer: &mut [u8]) -> Reported {
+        lines::report(state, buffer)
+    }
+
+    fn bad(&self, state: &WorkState) -> bool {
+        state::bad(state)
+    }
+}
+
+impl Calls for Fast {
+    fn open(&self, sheet: &[u8], limit: u64) -> Opened {
+        fast::open(sheet, limit)
+    }
+
+    fn sweep(&self, state: WorkState) -> Handled {
+        fast::sweep(state)
+    }
+
+    fn pass(&self, state: WorkState, seed: u64) -> Handled {
+        fast::pass(state, seed)
+    }
+
+    fn run(&self, state: WorkState, budget: u32) -> Ran {
+        fast::run(state, budget)
+    }
+
+    fn list_check(&self, state: &WorkState, numbers: &[u8]) -> Checked {
+        fast::list_check(state, numbers)
+    }
+
+    fn report(&self, state: &WorkState, buffer: &mut [u8]) -> Reported {
+        fast::report(state, buffer)
+    }
+
+    fn bad(&self, state: &WorkState) -> bool {
+        fast::bad(state)
+    }
+}

@@ -1,0 +1,52 @@
+//! Levels and components of a leg table, both by neighbours.
+
+use std::collections::BTreeSet;
+
+use crate::table::LegTable;
+
+/// The levels from a seed; level 0 is the seed alone, and none is empty.
+pub fn levels(table: &LegTable, seed: usize) -> Vec<BTreeSet<usize>> {
+    let mut reached = BTreeSet::from([seed]);
+    let mut levels = Vec::new();
+    let mut level = reached.clone();
+    while !level.is_empty() {
+        let next: BTreeSet<usize> = level
+            .iter()
+            .flat_map(|&i| table.neighbours(i))
+            .filter(|j| !reached.contains(j))
+            .collect();
+        reached.extend(&next);
+        levels.push(level);
+        level = next;
+    }
+    levels
+}
+
+/// The connected groups of all stations outside the separator, by their lowest
+/// station.
+pub fn components(table: &LegTable, separator: &BTreeSet<usize>) -> Vec<BTreeSet<usize>> {
+    let mut seen = separator.clone();
+    let mut components = Vec::new();
+    for start in table.stations() {
+        if !seen.contains(&start) {
+            let component = search(table, separator, start);
+            seen.extend(&component);
+            components.push(component);
+        }
+    }
+    components
+}
+
+/// Every station that a path outside the separator joins to the start.
+fn search(table: &LegTable, separator: &BTreeSet<usize>, start: usize) -> BTreeSet<usize> {
+    let mut found = BTreeSet::from([start]);
+    let mut waiting = vec![start];
+    while let Some(i) = waiting.pop() {
+        for j in table.neighbours(i) {
+            if !separator.contains(&j) && found.insert(j) {
+                waiting.push(j);
+            }
+        }
+    }
+    found
+}

@@ -1,0 +1,38 @@
+//! A plain implementation of the leg-table filter for the circuit constraint.
+//!
+//! The calls work on plain sets of station numbers, so that each rule reads
+//! like its definition. Speed is no concern here; [`fast`] holds the same calls
+//! over words of bits.
+//!
+//! Every call answers with a number of the radio card ([`card`]), 0 for taken.
+
+pub mod calls;
+pub mod card;
+pub mod choices;
+pub mod fast;
+pub mod gen;
+pub mod graph;
+pub mod hand;
+pub mod lines;
+pub mod list;
+pub mod pass;
+pub mod program;
+pub mod rounds;
+pub mod run;
+pub mod script;
+pub mod sheet;
+pub mod state;
+pub mod sweep;
+pub mod table;
+pub mod vectors;
+
+pub use calls::{Calls, Fast, Plain};
+pub use hand::Handled;
+pub use lines::{report, Reported};
+pub use list::{list_check, Checked};
+pub use pass::pass;
+pub use run::{run, Ran};
+pub use sheet::{open, Opened};
+pub use state::{bad, End, WorkState};
+pub use sweep::sweep;
+pub use table::LegTable;

@@ -1,0 +1,66 @@
+//! The run with a budget: sweep, then a pass from each station, over and over.
+
+use crate::card::{self, Number};
+use crate::hand::Verdict;
+use crate::pass::pass_table;
+use crate::state::{self, End, WorkState};
+use crate::sweep::sweep_table;
+use crate::table::LegTable;
+
+#[derive(Clone, Copy, Debug, PartialEq, Eq)]
+pub struct Ran {
+    pub number: Number,
+    pub state: WorkState,
+    pub steps: u32,
+    pub removed: u64,
+}
+
+pub fn run(state: WorkState, budget: u32) -> Ran {
+    if state::bad(&state) {
+        return Ran {
+            number: card::BAD_WORK_STATE,
+            state,
+            steps: 0,
+            removed: 0,
+        };
+    }
+    let mut table = state.table();
+    let mut after = state;
+    let mut steps = 0;
+    while after.end == End::Open && steps < budget {
+        step(&mut table, &mut after);
+        steps += 1;
+    }
+    after.rows = table.rows();
+    Ran {
+        number: card::TAKEN,
+        state: after,
+        steps,
+        removed: state.legs() - after.legs(),
+    }
+}
+
+/// One step; the rows of the state are left to the caller.
+fn step(table: &mut LegTable, state: &mut WorkState) {
+    let before = table.leg_count();
+    let verdict = match state.place {
+        0 => sweep_table(table),
+        seed => pass_table(table, seed as usize, state.limit as usize),
+    };
+    if verdict == Verdict::None {
+        state.end = End::None;
+        return;
+    }
+    if table.leg_count() < before {
+        state.mark = true;
+    }
+    if state.place < state.n {
+        state.place += 1;
+        return;
+    }
+    if !state.mark {
+        state.end = End::Stable;
+    }
+    state.place = 0;
+    state.mark = false;
+}
