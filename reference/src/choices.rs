@@ -171,10 +171,7 @@ pub mod literal {
 
     /// Tries every choice; the answer has the meaning of
     /// [`SeparatorGraph::legs_taken_bare`].
-    pub fn legs_taken_bare(
-        graph: &SeparatorGraph,
-        direction: Direction,
-    ) -> Option<BTreeSet<Leg>> {
+    pub fn legs_taken_bare(graph: &SeparatorGraph, direction: Direction) -> Option<BTreeSet<Leg>> {
         let options: Vec<Vec<(Leg, Mark)>> = graph
             .separator
             .iter()

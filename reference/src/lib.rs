@@ -15,6 +15,7 @@ pub mod graph;
 pub mod hand;
 pub mod lines;
 pub mod list;
+pub mod paper;
 pub mod pass;
 pub mod program;
 pub mod rounds;

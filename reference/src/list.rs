@@ -26,10 +26,7 @@ pub fn list_check(state: &WorkState, numbers: &[u8]) -> Checked {
     let table = state.table();
     Checked {
         number: card::TAKEN,
-        yes: is_round(&successors)
-            && table
-                .stations()
-                .all(|i| table.has(i, successors[i - 1])),
+        yes: is_round(&successors) && table.stations().all(|i| table.has(i, successors[i - 1])),
     }
 }
 

@@ -1,0 +1,452 @@
+//! Tables and sheets made from a seed, the same ones on every machine.
+
+use crate::card::{self, Number};
+use crate::table::{Leg, LegTable};
+
+/// Marsaglia's generator with shifts 13, 7, 17.
+pub struct Xorshift {
+    word: u64,
+}
+
+impl Xorshift {
+    pub fn new(seed: u64) -> Xorshift {
+        // Spread small seeds; the word must not be zero, or it stays zero.
+        let word = seed.wrapping_mul(0x9E37_79B9_7F4A_7C15) | 1;
+        Xorshift { word }
+    }
+
+    pub fn word(&mut self) -> u64 {
+        self.word ^= self.word << 13;
+        self.word ^= self.word >> 7;
+        self.word ^= self.word << 17;
+        self.word
+    }
+
+    pub fn below(&mut self, bound: usize) -> usize {
+        ((self.word() >> 16) % bound as u64) as usize
+    }
+
+    /// A number from `low` to `high`, both included.
+    pub fn between(&mut self, low: usize, high: usize) -> usize {
+        low + self.below(high - low + 1)
+    }
+
+    pub fn percent(&mut self, chance: usize) -> bool {
+        self.below(100) < chance
+    }
+
+    pub fn pick<T: Copy>(&mut self, items: &[T]) -> T {
+        items[self.below(items.len())]
+    }
+
+    /// Stations 1 to n in random order.
+    pub fn order(&mut self, n: usize) -> Vec<usize> {
+        let mut order: Vec<usize> = (1..=n).collect();
+        for last in (1..n).rev() {
+            let other = self.below(last + 1);
+            order.swap(last, other);
+        }
+        order
+    }
+}
+
+/// Kinds of tables, each with traps of its own for a filter.
+#[derive(Clone, Copy, Debug, PartialEq, Eq)]
+pub enum Family {
+    Full,
+    Sparse,
+    Medium,
+    Dense,
+    /// One round and a few more legs.
+    RingWithChords,
+    /// A two-way ring with legs across it, perhaps with a dead end: separators
+    /// of two stations that must strike the legs between them.
+    RingWithRungs,
+    /// Cells of a grid, joined both ways.
+    Grid,
+    /// A chain of groups, neighbouring groups sharing one station.
+    ClustersAtOne,
+    /// The same, sharing two stations.
+    ClustersAtTwo,
+    /// Groups in a ring, joined in one direction.
+    OneWayRoads,
+    /// Groups without any leg between them.
+    Islands,
+    /// Few hubs and hardly more single stations between them, so that
+    /// components and stations of a separator just balance.
+    Hubs,
+}
+
+impl Family {
+    pub const ALL: [Family; 12] = [
+        Family::Full,
+        Family::Sparse,
+        Family::Medium,
+        Family::Dense,
+        Family::RingWithChords,
+        Family::RingWithRungs,
+        Family::Grid,
+        Family::ClustersAtOne,
+        Family::ClustersAtTwo,
+        Family::OneWayRoads,
+        Family::Islands,
+        Family::Hubs,
+    ];
+
+    /// A table of n stations of this family.
+    pub fn table(self, rng: &mut Xorshift, n: usize) -> LegTable {
+        match self {
+            Family::Full => LegTable::full(n),
+            Family::Sparse => random(rng, n, 100 / n + 10),
+            Family::Medium => random(rng, n, 35),
+            Family::Dense => random(rng, n, 80),
+            Family::RingWithChords => ring_with_chords(rng, n),
+            Family::RingWithRungs => ring_with_rungs(rng, n),
+            Family::Grid => grid(rng, n),
+            Family::ClustersAtOne => clusters(rng, n, 1),
+            Family::ClustersAtTwo => clusters(rng, n, 2),
+            Family::OneWayRoads => one_way_roads(rng, n),
+            Family::Islands => islands(rng, n),
+            Family::Hubs => hubs(rng, n),
+        }
+    }
+}
+
+/// A table of any family.
+pub fn any_table(rng: &mut Xorshift, n: usize) -> LegTable {
+    let family = rng.pick(&Family::ALL);
+    family.table(rng, n)
+}
+
+/// Each leg with the same chance, in percent.
+pub fn random(rng: &mut Xorshift, n: usize, density: usize) -> LegTable {
+    let legs = LegTable::full(n).legs();
+    let kept: Vec<_> = legs.into_iter().filter(|_| rng.percent(density)).collect();
+    LegTable::from_legs(n, kept)
+}
+
+/// The round 1→2→…→n→1 and nothing else.
+pub fn ring(n: usize) -> LegTable {
+    LegTable::from_legs(n, (1..=n).map(|i| (i, i % n + 1)))
+}
+
+/// The table with both directions of each given road.
+pub fn two_way(n: usize, roads: &[(usize, usize)]) -> LegTable {
+    LegTable::from_legs(n, roads.iter().flat_map(|&(i, j)| [(i, j), (j, i)]))
+}
+
+/// The table with station i renamed to `names[i - 1]`.
+pub fn renamed(table: &LegTable, names: &[usize]) -> LegTable {
+    let legs = table.legs().into_iter();
+    LegTable::from_legs(table.n(), legs.map(|(i, j)| (names[i - 1], names[j - 1])))
+}
+
+fn shuffled(rng: &mut Xorshift, table: &LegTable) -> LegTable {
+    let names = rng.order(table.n());
+    renamed(table, &names)
+}
+
+fn ring_with_chords(rng: &mut Xorshift, n: usize) -> LegTable {
+    let mut table = shuffled(rng, &ring(n));
+    for _ in 0..rng.between(1, n) {
+        let (i, j) = (rng.between(1, n), rng.between(1, n));
+        if i != j {
+            table.add(i, j);
+        }
+    }
+    table
+}
+
+/// Rungs join the stations at the same distance from station 1. A dead end is
+/// two stations behind the one farthest away.
+fn ring_with_rungs(rng: &mut Xorshift, n: usize) -> LegTable {
+    let tail = if n >= 7 && rng.percent(30) { 2 } else { 0 };
+    let around = n - tail;
+    let mut roads: Vec<Leg> = (1..=around).map(|i| (i, i % around + 1)).collect();
+    if tail > 0 {
+        let farthest = around / 2 + 1;
+        roads.extend([(farthest, n - 1), (farthest, n), (n - 1, n)]);
+    }
+    let mut table = two_way(n, &roads);
+    for distance in 1..around.div_ceil(2) {
+        let (left, right) = (1 + distance, 1 + around - distance);
+        if rng.percent(60) {
+            table.add(left, right);
+        }
+        if rng.percent(60) {
+            table.add(right, left);
+        }
+    }
+    shuffled(rng, &table)
+}
+
+fn grid(rng: &mut Xorshift, n: usize) -> LegTable {
+    let width = (1..=n).find(|width| width * width >= n).unwrap_or(n);
+    let across = (1..n).filter(|i| i % width != 0).map(|i| (i, i + 1));
+    let along = (1..=n.saturating_sub(width)).map(|i| (i, i + width));
+    let table = two_way(n, &across.chain(along).collect::<Vec<_>>());
+    shuffled(rng, &table)
+}
+
+/// Adds legs between the stations of a group, each with the same chance.
+fn fill_group(rng: &mut Xorshift, table: &mut LegTable, group: &[usize], density: usize) {
+    for &i in group {
+        for &j in group {
+            if i != j && rng.percent(density) {
+                table.add(i, j);
+            }
+        }
+    }
+}
+
+fn clusters(rng: &mut Xorshift, n: usize, shared: usize) -> LegTable {
+    let mut table = LegTable::empty(n);
+    let density = rng.pick(&[60, 85, 100]);
+    let mut start = 1;
+    loop {
+        let end = (start + rng.between(shared + 1, shared + 3)).min(n);
+        let group: Vec<usize> = (start..=end).collect();
+        fill_group(rng, &mut table, &group, density);
+        if end == n {
+            return shuffled(rng, &table);
+        }
+        start = end + 1 - shared;
+    }
+}
+
+fn one_way_roads(rng: &mut Xorshift, n: usize) -> LegTable {
+    let size = rng.between(1, n.min(4));
+    let stations: Vec<usize> = (1..=n).collect();
+    let groups: Vec<&[usize]> = stations.chunks(size).collect();
+    let mut table = LegTable::empty(n);
+    for (at, group) in groups.iter().enumerate() {
+        fill_group(rng, &mut table, group, 50);
+        for &i in *group {
+            for &j in groups[(at + 1) % groups.len()] {
+                if i != j && rng.percent(70) {
+                    table.add(i, j);
+                }
+            }
+        }
+    }
+    shuffled(rng, &table)
+}
+
+fn islands(rng: &mut Xorshift, n: usize) -> LegTable {
+    let mut table = LegTable::empty(n);
+    let size = rng.between(n.div_ceil(3), n - n / 3);
+    let order = rng.order(n);
+    for group in order.chunks(size) {
+        let density = rng.pick(&[50, 100]);
+        fill_group(rng, &mut table, group, density);
+    }
+    table
+}
+
+fn hubs(rng: &mut Xorshift, n: usize) -> LegTable {
+    let hubs = n / 2 + rng.below(2);
+    let mut table = LegTable::empty(n);
+    let inner: Vec<usize> = (1..=hubs).collect();
+    fill_group(rng, &mut table, &inner, 40);
+    // The first spoke joins all hubs and so makes them a level.
+    for spoke in hubs + 1..=n {
+        let density = if spoke == hubs + 1 { 100 } else { 45 };
+        for hub in 1..=hubs {
+            if rng.percent(density) {
+                table.add(spoke, hub);
+            }
+            if rng.percent(density) {
+                table.add(hub, spoke);
+            }
+        }
+    }
+    shuffled(rng, &table)
+}
+
+/// One record of a sheet, fields as they are written.
+#[derive(Clone, Copy, Debug, Default)]
+pub struct Record {
+    pub next: Option<u64>,
+    pub previous: Option<u64>,
+    pub fixed: Option<u8>,
+}
+
+impl Record {
+    fn bytes(&self) -> Vec<u8> {
+        let map = u8::from(self.next.is_some())
+            + 2 * u8::from(self.previous.is_some())
+            + 4 * u8::from(self.fixed.is_some());
+        let mut bytes = vec![map];
+        bytes.extend(self.next.iter().flat_map(|set| set.to_le_bytes()));
+        bytes.extend(self.previous.iter().flat_map(|set| set.to_le_bytes()));
+        bytes.extend(self.fixed);
+        bytes
+    }
+}
+
+/// A sheet as a list of records, one for each station.
+#[derive(Clone, Debug)]
+pub struct Sheet {
+    pub records: Vec<Record>,
+}
+
+impl Sheet {
+    /// n records without any field.
+    pub fn plain(n: usize) -> Sheet {
+        Sheet {
+            records: vec![Record::default(); n],
+        }
+    }
+
+    /// The sheet that gives a table by its next sets alone. Full rows need none.
+    pub fn of(table: &LegTable) -> Sheet {
+        let mut sheet = Sheet::plain(table.n());
+        let full = LegTable::full(table.n()).rows();
+        for (at, row) in table.rows()[..table.n()].iter().enumerate() {
+            if *row != full[at] {
+                sheet.records[at].next = Some(*row);
+            }
+        }
+        sheet
+    }
+
+    /// The sheet that gives a table by its previous sets alone.
+    pub fn of_by_previous(table: &LegTable) -> Sheet {
+        let backward = table.legs().into_iter().map(|(i, j)| (j, i));
+        let columns = LegTable::from_legs(table.n(), backward).rows();
+        let mut sheet = Sheet::plain(table.n());
+        for (record, column) in sheet.records.iter_mut().zip(columns) {
+            record.previous = Some(column);
+        }
+        sheet
+    }
+
+    /// Any mixture of fields; sets may hold the own station or nothing.
+    pub fn random(rng: &mut Xorshift, n: usize) -> Sheet {
+        let mut sheet = Sheet::plain(n);
+        for record in &mut sheet.records {
+            record.next = rng.percent(60).then(|| random_set(rng, n));
+            record.previous = rng.percent(40).then(|| random_set(rng, n));
+            record.fixed = rng.percent(15).then(|| rng.between(1, n) as u8);
+        }
+        sheet
+    }
+
+    pub fn bytes(&self) -> Vec<u8> {
+        let mut bytes = vec![self.records.len() as u8];
+        for record in &self.records {
+            bytes.extend(record.bytes());
+        }
+        bytes
+    }
+
+    /// Where the map of a record stands, records counted from 0.
+    pub fn map_at(&self, record: usize) -> usize {
+        let before = &self.records[..record];
+        1 + before.iter().map(|r| r.bytes().len()).sum::<usize>()
+    }
+}
+
+fn random_set(rng: &mut Xorshift, n: usize) -> u64 {
+    let all = u64::MAX >> (64 - n);
+    match rng.below(20) {
+        0 => 0,
+        1 => all,
+        2..=5 => rng.word() & rng.word() & all,
+        _ => (rng.word() | rng.word()) & all,
+    }
+}
+
+/// A sheet that is refused, with the answer it must get.
+#[derive(Clone, Debug)]
+pub struct Damaged {
+    pub bytes: Vec<u8>,
+    pub number: Number,
+    pub place: usize,
+}
+
+/// Damages a sound sheet so that it is refused with the given number, 1 to 5.
+pub fn damaged(rng: &mut Xorshift, sheet: &Sheet, number: Number) -> Damaged {
+    match number {
+        card::CUT_SHEET => cut(rng, sheet),
+        card::BAD_COUNT => bad_count(rng, sheet),
+        card::UNKNOWN_BIT => unknown_bit(rng, sheet),
+        card::STRAY_STATION => stray_station(rng, sheet),
+        card::OVERHANG => overhang(rng, sheet),
+        _ => panic!("no sheet is refused with {number}"),
+    }
+}
+
+fn cut(rng: &mut Xorshift, sheet: &Sheet) -> Damaged {
+    let mut bytes = sheet.bytes();
+    bytes.truncate(rng.below(bytes.len()));
+    Damaged {
+        number: card::CUT_SHEET,
+        place: bytes.len(),
+        bytes,
+    }
+}
+
+fn bad_count(rng: &mut Xorshift, sheet: &Sheet) -> Damaged {
+    let mut bytes = sheet.bytes();
+    bytes[0] = rng.pick(&[0, 1, 65, 66, 128, 255]);
+    Damaged {
+        number: card::BAD_COUNT,
+        place: 0,
+        bytes,
+    }
+}
+
+fn unknown_bit(rng: &mut Xorshift, sheet: &Sheet) -> Damaged {
+    let mut bytes = sheet.bytes();
+    let place = sheet.map_at(rng.below(sheet.records.len()));
+    bytes[place] |= 8 << rng.below(5);
+    Damaged {
+        number: card::UNKNOWN_BIT,
+        place,
+        bytes,
+    }
+}
+
+fn stray_station(rng: &mut Xorshift, sheet: &Sheet) -> Damaged {
+    let n = sheet.records.len();
+    let mut sheet = sheet.clone();
+    let at = rng.below(n);
+    let map_at = sheet.map_at(at);
+    let record = &mut sheet.records[at];
+    let stray_bit = |rng: &mut Xorshift| 1 << rng.between(n, 63);
+    // In 64 stations no set has room for a stray one.
+    let field = if n < 64 { rng.below(3) } else { 2 };
+    let place = match field {
+        0 => {
+            record.next = Some(record.next.unwrap_or(0) | stray_bit(rng));
+            map_at + 1
+        }
+        1 => {
+            record.previous = Some(record.previous.unwrap_or(0) | stray_bit(rng));
+            map_at + record.bytes().len() - 8 - usize::from(record.fixed.is_some())
+        }
+        _ => {
+            record.fixed = Some(rng.pick(&[0, n as u8 + 1, 255]));
+            map_at + record.bytes().len() - 1
+        }
+    };
+    Damaged {
+        bytes: sheet.bytes(),
+        number: card::STRAY_STATION,
+        place,
+    }
+}
+
+fn overhang(rng: &mut Xorshift, sheet: &Sheet) -> Damaged {
+    let mut bytes = sheet.bytes();
+    let place = bytes.len();
+    for _ in 0..rng.between(1, 3) {
+        bytes.push(rng.below(256) as u8);
+    }
+    Damaged {
+        bytes,
+        number: card::OVERHANG,
+        place,
+    }
+}

@@ -1,0 +1,69 @@
+//! Sheets and tables that the specification and its sources name.
+
+use crate::gen::two_way;
+use crate::table::LegTable;
+
+/// The sheet of nine legs.
+pub const NINE_LEGS: [u8; 27] = [
+    6, //
+    1, 0x0E, 0, 0, 0, 0, 0, 0, 0, //
+    1, 0x11, 0, 0, 0, 0, 0, 0, 0, //
+    4, 6, //
+    4, 2, //
+    4, 3, //
+    4, 1,
+];
+
+/// What the program prints for the nine legs.
+pub const NINE_LEGS_OUTPUT: &str = "\
+stations 6 legs 9
+steps 14 removed 3 end stable
+1: 4
+2: 5
+3: 6
+4: 2
+5: 3
+6: 1
+";
+
+/// Two triangles that share station 3.
+pub fn butterfly() -> LegTable {
+    two_way(5, &[(1, 2), (1, 3), (2, 3), (3, 4), (3, 5), (4, 5)])
+}
+
+/// From seed 1 the separator is {2, 3} with the components {1}, which fits 2
+/// or 3 in an out-choice, and {4}, which fits only 2. Handing {1} to station 2
+/// first leaves nothing for {4}, although 1→2→4→3→1 is a round.
+pub fn greedy_trap() -> LegTable {
+    LegTable::from_legs(4, [(1, 2), (1, 3), (2, 1), (3, 1), (2, 4), (4, 2), (4, 3)])
+}
+
+/// The catalogue's instance with all solutions listed, own stations left out.
+pub fn catalogue() -> LegTable {
+    LegTable::from_legs(
+        4,
+        [
+            (1, 3),
+            (1, 4),
+            (2, 1),
+            (3, 1),
+            (3, 2),
+            (3, 4),
+            (4, 2),
+            (4, 3),
+        ],
+    )
+}
+
+/// The catalogue's solution counts for full tables of 2 to 10 stations.
+pub const SOLUTION_COUNTS: [(usize, usize); 9] = [
+    (2, 1),
+    (3, 2),
+    (4, 6),
+    (5, 24),
+    (6, 120),
+    (7, 720),
+    (8, 5_040),
+    (9, 40_320),
+    (10, 362_880),
+];

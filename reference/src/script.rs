@@ -1,0 +1,271 @@
+//! Binary scripts of calls, and the text that an implementation answers them
+//! with.
+//!
+//! A script is a row of commands: an opcode byte, then its arguments, integers
+//! little-endian.
+//!
+//! | Opcode | Arguments |
+//! |---|---|
+//! | `O` open | limit u64, length u16, sheet bytes |
+//! | `W` work state | n, limit, place u64, mark u8, end u8, 64 rows u64 |
+//! | `S` sweep | |
+//! | `P` pass | seed u64 |
+//! | `R` run | budget u32 |
+//! | `L` list check | length u16, numbers one byte each |
+//! | `T` report | buffer length u16, at most 16,384 |
+//!
+//! The calls work on one current state, at first the blank one.
+
+use std::io::{self, Write};
+
+use crate::calls::Calls;
+use crate::state::{End, WorkState};
+
+pub const LONGEST_BUFFER: u16 = 16_384;
+
+/// What a report buffer holds before the call.
+pub const FILLER: u8 = b'.';
+
+/// A script under construction.
+#[derive(Default)]
+pub struct Script {
+    bytes: Vec<u8>,
+}
+
+impl Script {
+    pub fn bytes(&self) -> &[u8] {
+        &self.bytes
+    }
+
+    pub fn open(&mut self, limit: u64, sheet: &[u8]) {
+        self.bytes.push(b'O');
+        self.bytes.extend(limit.to_le_bytes());
+        self.counted(sheet);
+    }
+
+    pub fn work(&mut self, state: &WorkState) {
+        self.bytes.push(b'W');
+        for word in [state.n, state.limit, state.place] {
+            self.bytes.extend(word.to_le_bytes());
+        }
+        self.bytes.push(u8::from(state.mark));
+        self.bytes.push(match state.end {
+            End::Open => 0,
+            End::Stable => 1,
+            End::None => 2,
+        });
+        for row in state.rows {
+            self.bytes.extend(row.to_le_bytes());
+        }
+    }
+
+    pub fn sweep(&mut self) {
+        self.bytes.push(b'S');
+    }
+
+    pub fn pass(&mut self, seed: u64) {
+        self.bytes.push(b'P');
+        self.bytes.extend(seed.to_le_bytes());
+    }
+
+    pub fn run(&mut self, budget: u32) {
+        self.bytes.push(b'R');
+        self.bytes.extend(budget.to_le_bytes());
+    }
+
+    pub fn list(&mut self, numbers: &[u8]) {
+        self.bytes.push(b'L');
+        self.counted(numbers);
+    }
+
+    pub fn report(&mut self, length: usize) {
+        let length = u16::try_from(length).expect("a buffer of at most 16,384 bytes");
+        assert!(length <= LONGEST_BUFFER);
+        self.bytes.push(b'T');
+        self.bytes.extend(length.to_le_bytes());
+    }
+
+    fn counted(&mut self, bytes: &[u8]) {
+        let length = u16::try_from(bytes.len()).expect("at most 65,535 bytes");
+        self.bytes.extend(length.to_le_bytes());
+        self.bytes.extend(bytes);
+    }
+}
+
+enum Command<'a> {
+    Open { limit: u64, sheet: &'a [u8] },
+    Work(Box<WorkState>),
+    Sweep,
+    Pass { seed: u64 },
+    Run { budget: u32 },
+    List { numbers: &'a [u8] },
+    Report { length: usize },
+}
+
+/// The part of a script that has not been read yet.
+struct Reader<'a> {
+    rest: &'a [u8],
+}
+
+impl<'a> Reader<'a> {
+    /// The next command, or nothing if it is unknown or cut.
+    fn command(&mut self) -> Option<Command<'a>> {
+        Some(match self.byte()? {
+            b'O' => Command::Open {
+                limit: self.word()?,
+                sheet: self.counted()?,
+            },
+            b'W' => Command::Work(Box::new(self.state()?)),
+            b'S' => Command::Sweep,
+            b'P' => Command::Pass { seed: self.word()? },
+            b'R' => Command::Run {
+                budget: u32::from_le_bytes(self.array()?),
+            },
+            b'L' => Command::List {
+                numbers: self.counted()?,
+            },
+            b'T' => Command::Report {
+                length: self.buffer_length()?,
+            },
+            _ => return None,
+        })
+    }
+
+    fn state(&mut self) -> Option<WorkState> {
+        let mut state = WorkState {
+            n: self.word()?,
+            limit: self.word()?,
+            place: self.word()?,
+            mark: match self.byte()? {
+                0 => false,
+                1 => true,
+                _ => return None,
+            },
+            end: match self.byte()? {
+                0 => End::Open,
+                1 => End::Stable,
+                2 => End::None,
+                _ => return None,
+            },
+            rows: [0; 64],
+        };
+        for row in &mut state.rows {
+            *row = self.word()?;
+        }
+        Some(state)
+    }
+
+    fn buffer_length(&mut self) -> Option<usize> {
+        let length = u16::from_le_bytes(self.array()?);
+        (length <= LONGEST_BUFFER).then_some(usize::from(length))
+    }
+
+    fn counted(&mut self) -> Option<&'a [u8]> {
+        let length = u16::from_le_bytes(self.array()?);
+        self.take(usize::from(length))
+    }
+
+    fn word(&mut self) -> Option<u64> {
+        self.array().map(u64::from_le_bytes)
+    }
+
+    fn byte(&mut self) -> Option<u8> {
+        self.take(1).map(|bytes| bytes[0])
+    }
+
+    fn array<const COUNT: usize>(&mut self) -> Option<[u8; COUNT]> {
+        self.take(COUNT)?.try_into().ok()
+    }
+
+    fn take(&mut self, count: usize) -> Option<&'a [u8]> {
+        if self.rest.len() < count {
+            return None;
+        }
+        let (taken, rest) = self.rest.split_at(count);
+        self.rest = rest;
+        Some(taken)
+    }
+}
+
+/// Answers a script command by command; at an unknown or cut one it writes
+/// `stop` and ends.
+pub fn play(calls: &impl Calls, script: &[u8], out: &mut impl Write) -> io::Result<()> {
+    let mut reader = Reader { rest: script };
+    let mut state = WorkState::BLANK;
+    while !reader.rest.is_empty() {
+        match reader.command() {
+            Some(command) => answer(calls, command, &mut state, out)?,
+            None => return writeln!(out, "stop"),
+        }
+    }
+    Ok(())
+}
+
+fn answer(
+    calls: &impl Calls,
+    command: Command,
+    state: &mut WorkState,
+    out: &mut impl Write,
+) -> io::Result<()> {
+    match command {
+        Command::Open { limit, sheet } => {
+            let opened = calls.open(sheet, limit);
+            *state = opened.state;
+            writeln!(out, "open {} at {}", opened.number, opened.place)?;
+        }
+        Command::Work(given) => {
+            *state = *given;
+            writeln!(out, "work")?;
+        }
+        Command::Sweep => {
+            let swept = calls.sweep(*state);
+            *state = swept.state;
+            writeln!(out, "sweep {} removed {}", swept.number, swept.removed)?;
+        }
+        Command::Pass { seed } => {
+            let passed = calls.pass(*state, seed);
+            *state = passed.state;
+            writeln!(out, "pass {} removed {}", passed.number, passed.removed)?;
+        }
+        Command::Run { budget } => {
+            let ran = calls.run(*state, budget);
+            *state = ran.state;
+            let (number, steps, removed) = (ran.number, ran.steps, ran.removed);
+            writeln!(out, "run {number} steps {steps} removed {removed}")?;
+        }
+        // These two leave the state as it is, so no state line follows.
+        Command::List { numbers } => {
+            let checked = calls.list_check(state, numbers);
+            let word = if checked.yes { "yes" } else { "no" };
+            return writeln!(out, "list {} {}", checked.number, word);
+        }
+        Command::Report { length } => {
+            let mut buffer = vec![FILLER; length];
+            let reported = calls.report(state, &mut buffer);
+            let (number, length) = (reported.number, reported.length);
+            writeln!(out, "report {number} length {length}")?;
+            out.write_all(&buffer)?;
+            return writeln!(out);
+        }
+    }
+    state_line(state, out)
+}
+
+fn state_line(state: &WorkState, out: &mut impl Write) -> io::Result<()> {
+    write!(
+        out,
+        "state n {} limit {} place {} mark {} end {} legs {}",
+        state.n,
+        state.limit,
+        state.place,
+        u8::from(state.mark),
+        state.end.word(),
+        state.legs()
+    )?;
+    for (at, row) in state.rows.iter().enumerate() {
+        if *row != 0 {
+            write!(out, " {}={row:016x}", at + 1)?;
+        }
+    }
+    writeln!(out)
+}

@@ -1,0 +1,33 @@
+//! The script of test vectors, section by section.
+
+mod bad_states;
+mod lines;
+mod lists;
+mod openings;
+mod passes;
+mod runs;
+mod sweeps;
+
+use crate::gen::Sheet;
+use crate::script::Script;
+use crate::table::LegTable;
+
+/// Numbers that a cast to fewer bits turns into 1, or that are just large.
+const WIDE_NUMBERS: [u64; 5] = [257, 1 << 32, (1 << 32) + 1, 1 << 63, u64::MAX];
+
+pub fn script() -> Script {
+    let mut script = Script::default();
+    // The blank state comes first, before any opening.
+    bad_states::add(&mut script);
+    openings::add(&mut script);
+    lines::add(&mut script);
+    sweeps::add(&mut script);
+    passes::add(&mut script);
+    runs::add(&mut script);
+    lists::add(&mut script);
+    script
+}
+
+fn open_table(script: &mut Script, limit: u64, table: &LegTable) {
+    script.open(limit, &Sheet::of(table).bytes());
+}

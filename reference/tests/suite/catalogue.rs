@@ -1,0 +1,81 @@
+//! The catalogue's example and solution counts.
+
+use reference::gen::{any_table, Xorshift};
+use reference::list::is_round;
+use reference::paper::{catalogue, SOLUTION_COUNTS};
+use reference::rounds::rounds;
+use reference::{list_check, LegTable};
+
+use crate::{opened, BOTH};
+
+/// Every list of n numbers from 1 to n.
+fn all_lists(n: usize) -> impl Iterator<Item = Vec<u8>> {
+    let count = n.pow(n as u32);
+    (0..count).map(move |code| {
+        let digits = (0..n as u32).map(|at| code / n.pow(at) % n);
+        digits.map(|digit| digit as u8 + 1).collect()
+    })
+}
+
+fn as_bytes(successors: &[usize]) -> Vec<u8> {
+    successors.iter().map(|&next| next as u8).collect()
+}
+
+#[test]
+fn solution_counts_by_enumerated_rounds() {
+    for (n, count) in SOLUTION_COUNTS {
+        let table = LegTable::full(n);
+        let found = rounds(&table);
+        assert_eq!(found.len(), count);
+        assert!(found.iter().all(|successors| is_round(successors)));
+    }
+}
+
+#[test]
+fn solution_counts_by_list_checks() {
+    for (n, count) in &SOLUTION_COUNTS[..5] {
+        let state = opened(&LegTable::full(*n));
+        for calls in BOTH {
+            let yes = all_lists(*n).filter(|list| calls.list_check(&state, list).yes);
+            assert_eq!(yes.count(), *count);
+        }
+    }
+}
+
+#[test]
+fn list_checks_accept_each_round_of_seven_and_eight() {
+    for n in [7, 8] {
+        let table = LegTable::full(n);
+        let state = opened(&table);
+        for successors in rounds(&table) {
+            for calls in BOTH {
+                assert!(calls.list_check(&state, &as_bytes(&successors)).yes);
+            }
+        }
+    }
+}
+
+#[test]
+fn all_solutions_of_the_example() {
+    let state = opened(&catalogue());
+    for calls in BOTH {
+        let yes: Vec<_> = all_lists(4)
+            .filter(|list| calls.list_check(&state, list).yes)
+            .collect();
+        assert_eq!(yes, [[3, 1, 4, 2], [4, 1, 2, 3]]);
+    }
+}
+
+#[test]
+fn list_checks_agree_with_enumerated_rounds() {
+    let mut rng = Xorshift::new(6);
+    for _ in 0..60 {
+        let n = rng.between(2, 5);
+        let table = any_table(&mut rng, n);
+        let found: Vec<_> = rounds(&table).iter().map(|round| as_bytes(round)).collect();
+        for list in all_lists(n) {
+            let yes = list_check(&opened(&table), &list).yes;
+            assert_eq!(yes, found.contains(&list));
+        }
+    }
+}

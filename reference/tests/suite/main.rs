@@ -1,0 +1,30 @@
+//! Tests of the plain calls against the definitions, and of the fast calls
+//! against the plain ones.
+
+mod catalogue;
+mod choices;
+mod fast;
+mod openings;
+mod scripts;
+mod soundness;
+mod states;
+mod wall;
+mod yard;
+
+use reference::{Calls, Fast, LegTable, Plain, WorkState};
+
+/// Both implementations, for what has to hold of each.
+const BOTH: [&dyn Calls; 2] = [&Plain, &Fast];
+
+/// The state that a taken opening gives for a table.
+fn opened(table: &LegTable) -> WorkState {
+    WorkState::opened(table, 64)
+}
+
+/// The legs of one state that another lacks.
+fn removed_legs(before: &WorkState, after: &WorkState) -> Vec<(usize, usize)> {
+    let kept = after.table();
+    let mut legs = before.table().legs();
+    legs.retain(|&(i, j)| !kept.has(i, j));
+    legs
+}

@@ -1,0 +1,107 @@
+//! The script format and the script of vectors.
+
+use reference::script::{play, Script};
+use reference::{vectors, Calls, Fast, Plain};
+
+fn answers(calls: &impl Calls, script: &[u8]) -> Vec<u8> {
+    let mut out = Vec::new();
+    play(calls, script, &mut out).expect("writing to memory");
+    out
+}
+
+fn text(script: &[u8]) -> String {
+    String::from_utf8(answers(&Plain, script)).expect("text")
+}
+
+#[test]
+fn answers_to_each_command() {
+    let mut script = Script::default();
+    script.sweep();
+    script.open(64, &[3, 0, 0, 0]);
+    script.pass(2);
+    script.run(7);
+    script.list(&[2, 3, 1]);
+    script.list(&[2, 3]);
+    script.report(24);
+    script.report(3);
+    let expected = "\
+sweep 7 removed 0
+state n 0 limit 0 place 0 mark 0 end open legs 0
+open 0 at 0
+state n 3 limit 64 place 0 mark 0 end open legs 6 1=0000000000000006 2=0000000000000005 3=0000000000000003
+pass 0 removed 0
+state n 3 limit 64 place 0 mark 0 end open legs 6 1=0000000000000006 2=0000000000000005 3=0000000000000003
+run 0 steps 4 removed 0
+state n 3 limit 64 place 0 mark 0 end stable legs 6 1=0000000000000006 2=0000000000000005 3=0000000000000003
+list 0 yes
+list 9 no
+report 0 length 21
+1: 2 3
+2: 1 3
+3: 1 2
+...
+report 10 length 0
+...
+";
+    assert_eq!(text(script.bytes()), expected);
+}
+
+#[test]
+fn a_work_state_comes_back_as_it_was() {
+    let mut state = Plain.open(&[2, 0, 0], 64).state;
+    state.n = u64::MAX;
+    state.place = 9;
+    state.mark = true;
+    state.rows[63] = u64::MAX;
+    let mut script = Script::default();
+    script.work(&state);
+    assert_eq!(script.bytes().len(), 539);
+    let expected = "\
+work
+state n 18446744073709551615 limit 64 place 9 mark 1 end open legs 66 \
+1=0000000000000002 2=0000000000000001 64=ffffffffffffffff
+";
+    assert_eq!(text(script.bytes()), expected);
+}
+
+#[test]
+fn unknown_and_cut_commands_stop() {
+    assert_eq!(text(b""), "");
+    assert_eq!(text(b"XSS"), "stop\n");
+    let mut script = Script::default();
+    script.open(64, &[2, 0, 0]);
+    for length in 1..script.bytes().len() {
+        assert_eq!(text(&script.bytes()[..length]), "stop\n");
+    }
+}
+
+#[test]
+fn vectors_are_small_and_answered_alike() {
+    let script = vectors::script();
+    assert!(script.bytes().len() < 900_000);
+    let plain = answers(&Plain, script.bytes());
+    assert!(plain.len() < 3_000_000);
+    assert!(plain == answers(&Fast, script.bytes()));
+    assert!(!plain.ends_with(b"stop\n"));
+}
+
+/// Each call gives each of its numbers somewhere in the vectors.
+#[test]
+fn vectors_draw_every_number() {
+    let script = vectors::script();
+    let text = String::from_utf8(answers(&Fast, script.bytes())).expect("text");
+    let numbers: [(&str, &[u8]); 6] = [
+        ("open", &[0, 1, 2, 3, 4, 5, 6]),
+        ("sweep", &[0, 7]),
+        ("pass", &[0, 7, 8]),
+        ("run", &[0, 7]),
+        ("list", &[0, 7, 9]),
+        ("report", &[0, 7, 10]),
+    ];
+    for (call, numbers) in numbers {
+        for number in numbers {
+            let start = format!("{call} {number} ");
+            assert!(text.lines().any(|line| line.starts_with(&start)));
+        }
+    }
+}
