@@ -19,13 +19,13 @@ use Rattle.circuit.specs.Legs.{fullRow}
 use Rattle.circuit.specs.Inner.{strayRow}
 
 -- a word with members below n only is below 2 ^ n
-members-below : (n w : ℕ) → ((j : ℕ) → has w j ≡ true → j < n) → w < 2 ^ n
+pub members-below : (n w : ℕ) → ((j : ℕ) → has w j ≡ true → j < n) → w < 2 ^ n
 members-below zero w f = let z : w ≡ 0 = no-member w (λ k. is-false (has w k) (λ e. absurd (omega (arith, f k e)))) in omega arith
 members-below (suc n) w f =
     omega (arith, members-below n (w / 2) (λ j e. let l = f (suc j) (has-half w j ∙ e) in omega arith))
 
 -- j may follow i in the full table of n
-abbrev Allowed : ℕ → ℕ → ℕ → Type 0
+abbrev pub Allowed : ℕ → ℕ → ℕ → Type 0
 Allowed n i j = (i < n) × (j < n) × (j ≢ i)
 
 module _ (n i w : ℕ) where

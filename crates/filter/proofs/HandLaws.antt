@@ -1,0 +1,79 @@
+-- The hand rules by cases, as the code goes through them. Assumes nothing.
+use mathlib.Core.Path.{_≡_, sym, ap, ap₂, _∙_}
+use mathlib.Core.Bool.{Bool, true, false, cond}
+use mathlib.Core.List.{List}
+use Prim.Native.Nat.{ℕ, _-_, _≤_, _<_}
+use native.Mathlib.Omega.{arith}
+use lib.Count.{ones}
+use lib.Dec.{ltb}
+use Rattle.bitset.specs.Sets.{sum}
+use Rattle.bitset.proofs.BoolLaws.{cond-true, cond-false}
+use Rattle.circuit.specs.declared.Work.{Work}
+use Rattle.circuit.specs.declared.Verdict.{Verdict}
+use Rattle.circuit.specs.declared.Called.{Called}
+use Rattle.circuit.specs.declared.Answer.the-variants.{Taken, BadWork}
+use Rattle.circuit.specs.Legs.{row, legs}
+use Rattle.circuit.specs.State.{isNone, rowsOf, bad, Good}
+use Rattle.circuit.proofs.LegsLaws.{legs-le}
+use Rattle.circuit.proofs.StateLaws.{legs-ones}
+use Rattle.circuit.proofs.SoundLaws.{Sound}
+use Rattle.filter.specs.Sweep.{sweep}
+use Rattle.filter.specs.Calls.{gone, halted, unchanged, reopened, byHand, sweepCall}
+use Rattle.filter.specs.Inner.{Within}
+
+-- a sound verdict leaves no stray leg and no leg that was missing
+pub within : (w : Work) (v : Verdict) → Good w → Sound (w .n) (rowsOf w) v → Within w v
+within w v g s = record { clean = s .clean (g .table); sub = s .sub }
+
+-- legs before less legs after, from the counts of ones
+module _ (w : Work) (v : Verdict) (g : Good w) (i : Within w v) (a b : ℕ) (ea : a ≡ sum 64 (λ k. ones (row (rowsOf w) k))) (eb : b ≡ sum 64 (λ k. ones (row (v .left) k))) where
+  before : a ≡ legs (w .n) (rowsOf w)
+  before = ea ∙ sym (legs-ones (w .n) (rowsOf w) (g .most) (g .table))
+
+  after : b ≡ legs (w .n) (v .left)
+  after = eb ∙ sym (legs-ones (w .n) (v .left) (g .most) (i .clean))
+
+  pub fewer : b ≤ a
+  fewer = omega (arith, before, after, legs-le (w .n) (v .left) (rowsOf w) (i .sub))
+
+  pub gone-is : a - b ≡ gone w v
+  unfolding gone
+  gone-is = ap₂ (λ (x y : ℕ). x - y) before after
+
+-- the hand rules, on an end that is not none
+module _ (w : Work) (v : Verdict) (e : isNone (w .end) ≡ false) where
+  some : Work
+  some = cond (ltb 0 (gone w v)) (reopened w v) w
+
+  by-hand-is : (u : Work) (r : ℕ) → u ≡ cond (v .none) (halted w v) some → r ≡ gone w v → record { answer = Taken; work = u; removed = r } ≡ byHand w v
+  unfolding byHand some
+  by-hand-is u r p q =
+      ap₂ (λ (x : Work) (y : ℕ). record { answer = Taken; work = x; removed = y }) p q
+      ∙ sym (cond-false (unchanged Taken w) (record { answer = Taken; work = cond (v .none) (halted w v) some; removed = gone w v }) e)
+
+  pub hand-none : (u : Work) (r : ℕ) → v .none ≡ true → u ≡ halted w v → r ≡ gone w v → record { answer = Taken; work = u; removed = r } ≡ byHand w v
+  hand-none u r n p = by-hand-is u r (p ∙ sym (cond-true (halted w v) some n))
+
+  pub hand-gone : (u : Work) (r : ℕ) → v .none ≡ false → ltb 0 r ≡ true → u ≡ reopened w v → r ≡ gone w v → record { answer = Taken; work = u; removed = r } ≡ byHand w v
+  unfolding some
+  hand-gone u r n l p q = by-hand-is u r (p ∙ sym (cond-true (reopened w v) w (ap (ltb 0) (sym q) ∙ l)) ∙ sym (cond-false (halted w v) some n)) q
+
+  pub hand-same : (r : ℕ) → v .none ≡ false → ltb 0 r ≡ false → r ≡ gone w v → record { answer = Taken; work = w; removed = r } ≡ byHand w v
+  unfolding some
+  hand-same r n l q = by-hand-is w r (sym (cond-false (reopened w v) w (ap (ltb 0) (sym q) ∙ l)) ∙ sym (cond-false (halted w v) some n)) q
+
+-- on an end that is none
+pub hand-ended : (w : Work) (v : Verdict) → isNone (w .end) ≡ true → unchanged Taken w ≡ byHand w v
+unfolding byHand
+hand-ended w v e = sym (cond-true (unchanged Taken w) _ e)
+
+-- ---- the sweep by hand
+
+module _ (w : Work) where
+  pub sweep-bad : bad w ≡ true → unchanged BadWork w ≡ sweepCall w
+  unfolding sweepCall
+  sweep-bad e = sym (cond-true (unchanged BadWork w) (byHand w (sweep (w .n) (rowsOf w))) e)
+
+  pub sweep-good : bad w ≡ false → (r : Called) → r ≡ byHand w (sweep (w .n) (rowsOf w)) → r ≡ sweepCall w
+  unfolding sweepCall
+  sweep-good e r q = q ∙ sym (cond-false (unchanged BadWork w) (byHand w (sweep (w .n) (rowsOf w))) e)

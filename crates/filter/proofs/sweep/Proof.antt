@@ -1,0 +1,76 @@
+-- `filter::sweep` meets its contract.
+use borrow.Author.Needs.{needs}
+use mathlib.Core.Path.{sym, ap, subst, _∙_}
+use Rattle.circuit.specs.declared.Verdict.{Verdict}
+use Rattle.circuit.specs.State.{rowsOf}
+use Rattle.circuit.proofs.StateLaws.{good}
+use Rattle.filter.specs.Sweep.{sweep}
+use Rattle.filter.specs.Calls.{byHand}
+use Rattle.filter.specs.Inner.{Within}
+use Rattle.filter.proofs.SweepLaws.{sweep-sound}
+use Rattle.filter.proofs.HandLaws.{within, hand-ended, sweep-bad, sweep-good}
+use Rattle.filter.proofs.sweep.Statement.{statement}
+use Rattle.filter.proofs.sweep.Tie as tie
+
+is-bad-requires : tie.Need-is-bad-requires
+is-bad-requires c κs = search needs
+
+unchanged-requires : tie.Need-unchanged-requires
+unchanged-requires c κs = search needs
+
+returns : tie.Need-returns
+returns c =
+    let s = c .before .before .before in
+    c .unchanged .ensures ∙ sweep-bad (s .args .work) (sym (c .before .before .is-bad .ensures) ∙ c .before .if1 .taken)
+
+is-none-requires : tie.Need-is-none-requires
+is-none-requires c κs = search needs
+
+unchanged-requires-2 : tie.Need-unchanged-requires-2
+unchanged-requires-2 c κs = search needs
+
+returns-2 : tie.Need-returns-2
+returns-2 c =
+    let n = c .before .before in
+    let b = n .before .before in
+    let w = b .before .args .work in
+    sweep-good w (sym (b .is-bad .ensures) ∙ n .before .if1 .left) (c .unchanged2 .result)
+    (c .unchanged2 .ensures ∙ hand-ended w (sweep (w .n) (rowsOf w)) (sym (n .is-none .ensures) ∙ c .before .if2 .taken))
+
+sweep-rows-requires : tie.Need-sweep-rows-requires
+sweep-rows-requires c κs =
+    let b = c .before .before .before .before .before in
+    let g = good (b .before .args .work) (sym (b .is-bad .ensures) ∙ c .before .before .before .before .if1 .left) in
+    (g .most, g .table)
+
+by-hand-requires : tie.Need-by-hand-requires
+by-hand-requires c κs =
+    let e = c .before .before .before in
+    let b = e .before .before .before in
+    let w = b .before .args .work in
+    let g = good w (sym (b .is-bad .ensures) ∙ e .before .before .if1 .left) in (
+      g,
+      subst (λ (v : Verdict). Within w v) (sym (c .sweep-rows .ensures)) (within w (sweep (w .n) (rowsOf w)) g (sweep-sound (w .n) (rowsOf w) (g .most))),
+      sym (e .before .is-none .ensures) ∙ e .if2 .left,
+    )
+
+returns-3 : tie.Need-returns-3
+returns-3 c =
+    let e = c .before .before .before .before in
+    let b = e .before .before .before in
+    let w = b .before .args .work in
+    sweep-good w (sym (b .is-bad .ensures) ∙ e .before .before .if1 .left) (c .by-hand .result) (c .by-hand .ensures ∙ ap (byHand w) (c .before .sweep-rows .ensures))
+
+pub sweep-spec : {M : Type 1} → statement M
+sweep-spec =
+    tie.close
+    (tie.spec
+    is-bad-requires
+    unchanged-requires
+    returns
+    is-none-requires
+    unchanged-requires-2
+    returns-2
+    sweep-rows-requires
+    by-hand-requires
+    returns-3)
