@@ -135,6 +135,32 @@ pub fn two_way(n: usize, roads: &[(usize, usize)]) -> LegTable {
     LegTable::from_legs(n, roads.iter().flat_map(|&(i, j)| [(i, j), (j, i)]))
 }
 
+/// A two-way ring of six with a leg across from 2 to 6, and behind station 4 a
+/// dead end of 7 and 8. From seed 1 level {2, 6} strikes that leg, level {3, 5}
+/// keeps all, and level {4} gives none.
+pub fn rung_and_dead_end() -> LegTable {
+    let mut roads: Vec<Leg> = (1..=6).map(|i| (i, i % 6 + 1)).collect();
+    roads.extend([(4, 7), (4, 8), (7, 8)]);
+    let mut table = two_way(8, &roads);
+    table.add(2, 6);
+    table
+}
+
+/// From seed 1 the separator is {2, 3, 4} with the components {1} and {5}. Every
+/// in-choice takes 3→2 bare and no out-choice does: the legs 3→2 and 4→3 go
+/// together, and striking for one direction before looking at the other would
+/// wrongly say none.
+pub fn choices_at_odds() -> LegTable {
+    let outside = [(2, 1), (1, 3), (1, 4), (3, 5), (5, 3), (5, 4)];
+    let inside = [(3, 2), (4, 3)];
+    LegTable::from_legs(5, outside.into_iter().chain(inside))
+}
+
+/// The table with every leg turned round.
+pub fn reversed(table: &LegTable) -> LegTable {
+    LegTable::from_legs(table.n(), table.legs().into_iter().map(|(i, j)| (j, i)))
+}
+
 /// The table with station i renamed to `names[i - 1]`.
 pub fn renamed(table: &LegTable, names: &[usize]) -> LegTable {
     let legs = table.legs().into_iter();
@@ -312,8 +338,7 @@ impl Sheet {
 
     /// The sheet that gives a table by its previous sets alone.
     pub fn of_by_previous(table: &LegTable) -> Sheet {
-        let backward = table.legs().into_iter().map(|(i, j)| (j, i));
-        let columns = LegTable::from_legs(table.n(), backward).rows();
+        let columns = reversed(table).rows();
         let mut sheet = Sheet::plain(table.n());
         for (record, column) in sheet.records.iter_mut().zip(columns) {
             record.previous = Some(column);

@@ -1,4 +1,4 @@
-//! Sheets and tables that the specification and its sources name.
+//! Sheets and tables that the specification and its sources name or describe.
 
 use crate::gen::two_way;
 use crate::table::LegTable;
@@ -31,6 +31,7 @@ pub fn butterfly() -> LegTable {
     two_way(5, &[(1, 2), (1, 3), (2, 3), (3, 4), (3, 5), (4, 5)])
 }
 
+/// The trap for handing out components greedily, as described in the yard.
 /// From seed 1 the separator is {2, 3} with the components {1}, which fits 2
 /// or 3 in an out-choice, and {4}, which fits only 2. Handing {1} to station 2
 /// first leaves nothing for {4}, although 1→2→4→3→1 is a round.
@@ -40,19 +41,9 @@ pub fn greedy_trap() -> LegTable {
 
 /// The catalogue's instance with all solutions listed, own stations left out.
 pub fn catalogue() -> LegTable {
-    LegTable::from_legs(
-        4,
-        [
-            (1, 3),
-            (1, 4),
-            (2, 1),
-            (3, 1),
-            (3, 2),
-            (3, 4),
-            (4, 2),
-            (4, 3),
-        ],
-    )
+    let from_1_and_2 = [(1, 3), (1, 4), (2, 1)];
+    let from_3_and_4 = [(3, 1), (3, 2), (3, 4), (4, 2), (4, 3)];
+    LegTable::from_legs(4, from_1_and_2.into_iter().chain(from_3_and_4))
 }
 
 /// The catalogue's solution counts for full tables of 2 to 10 stations.

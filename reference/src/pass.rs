@@ -26,8 +26,8 @@ pub fn pass(state: WorkState, seed: u64) -> Handled {
 pub fn pass_table(table: &mut LegTable, seed: usize, limit: usize) -> Verdict {
     let levels = graph::levels(table, seed);
     let last = levels.len() - 1;
-    for k in 1..last {
-        if levels[k].len() <= limit && filter(table, &levels[k]) == Verdict::None {
+    for level in levels.iter().take(last).skip(1) {
+        if level.len() <= limit && filter(table, level) == Verdict::None {
             return Verdict::None;
         }
     }

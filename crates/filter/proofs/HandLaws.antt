@@ -2,23 +2,24 @@
 use mathlib.Core.Path.{_≡_, sym, ap, ap₂, _∙_}
 use mathlib.Core.Bool.{Bool, true, false, cond}
 use mathlib.Core.List.{List}
-use Prim.Native.Nat.{ℕ, _-_, _≤_, _<_}
+use Prim.Native.Nat.{ℕ, pred, _-_, _≤_}
 use native.Mathlib.Omega.{arith}
 use lib.Count.{ones}
 use lib.Dec.{ltb}
-use Rattle.bitset.specs.Sets.{sum}
+use Rattle.bitset.specs.Sets.{outside, sum}
 use Rattle.bitset.proofs.BoolLaws.{cond-true, cond-false}
 use Rattle.circuit.specs.declared.Work.{Work}
 use Rattle.circuit.specs.declared.Verdict.{Verdict}
 use Rattle.circuit.specs.declared.Called.{Called}
-use Rattle.circuit.specs.declared.Answer.the-variants.{Taken, BadWork}
+use Rattle.circuit.specs.declared.Answer.the-variants.{Taken, BadWork, StraySeed}
 use Rattle.circuit.specs.Legs.{row, legs}
 use Rattle.circuit.specs.State.{isNone, rowsOf, bad, Good}
 use Rattle.circuit.proofs.LegsLaws.{legs-le}
 use Rattle.circuit.proofs.StateLaws.{legs-ones}
 use Rattle.circuit.proofs.SoundLaws.{Sound}
 use Rattle.filter.specs.Sweep.{sweep}
-use Rattle.filter.specs.Calls.{gone, halted, unchanged, reopened, byHand, sweepCall}
+use Rattle.filter.specs.Pass.{pass}
+use Rattle.filter.specs.Calls.{gone, halted, unchanged, reopened, byHand, sweepCall, passCall}
 use Rattle.filter.specs.Inner.{Within}
 
 -- a sound verdict leaves no stray leg and no leg that was missing
@@ -77,3 +78,24 @@ module _ (w : Work) where
   pub sweep-good : bad w ≡ false → (r : Called) → r ≡ byHand w (sweep (w .n) (rowsOf w)) → r ≡ sweepCall w
   unfolding sweepCall
   sweep-good e r q = q ∙ sym (cond-false (unchanged BadWork w) (byHand w (sweep (w .n) (rowsOf w))) e)
+
+-- ---- the pass by hand
+
+module _ (w : Work) (seed : ℕ) where
+  v : Verdict
+  v = pass (w .n) (rowsOf w) (w .limit) (pred seed)
+
+  in-range : Called
+  in-range = cond (outside 1 (w .n) seed) (unchanged StraySeed w) (byHand w v)
+
+  pub pass-bad : bad w ≡ true → unchanged BadWork w ≡ passCall w seed
+  unfolding passCall v in-range
+  pass-bad e = sym (cond-true (unchanged BadWork w) in-range e)
+
+  pub pass-stray : bad w ≡ false → outside 1 (w .n) seed ≡ true → unchanged StraySeed w ≡ passCall w seed
+  unfolding passCall v in-range
+  pass-stray e o = sym (cond-true (unchanged StraySeed w) (byHand w v) o) ∙ sym (cond-false (unchanged BadWork w) in-range e)
+
+  pub pass-good : bad w ≡ false → outside 1 (w .n) seed ≡ false → (r : Called) → r ≡ byHand w (pass (w .n) (rowsOf w) (w .limit) (pred seed)) → r ≡ passCall w seed
+  unfolding passCall v in-range
+  pass-good e o r q = q ∙ sym (cond-false (unchanged StraySeed w) (byHand w v) o) ∙ sym (cond-false (unchanged BadWork w) in-range e)

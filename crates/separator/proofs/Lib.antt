@@ -1,4 +1,4 @@
--- The rule of one level is sound.
+-- The rule of one level is sound, and the code of neighbours, levels, components, marks and the level is exact.
 pub mod ComponentLaws
 pub mod ChooseLaws
 pub mod Excursion
@@ -6,3 +6,16 @@ pub mod RoundChoice
 pub mod Separator
 pub mod MarkLaws
 pub mod LevelLaws
+pub mod WidthLaws
+pub mod GrowLaws
+pub mod ArrayLaws
+pub mod LevelsLaws
+pub mod InnerLaws
+pub mod PartLaws
+pub mod RepresentativeLaws
+pub mod TakesLaws
+pub mod EndsLaws
+pub mod CutLaws
+pub mod SideLaws
+pub mod SpareLaws
+pub mod ExactLaws

@@ -2,4 +2,7 @@
 pub mod Choice
 pub mod Levels
 pub mod Components
+pub mod Linked
 pub mod Level
+pub mod Spares
+pub mod Strike

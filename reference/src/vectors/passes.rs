@@ -1,7 +1,7 @@
 //! Passes: the faults of the yard, every seed, several limits.
 
 use super::{open_table, WIDE_NUMBERS};
-use crate::gen::{renamed, ring, Family, Xorshift};
+use crate::gen::{choices_at_odds, renamed, reversed, ring, rung_and_dead_end, Family, Xorshift};
 use crate::paper;
 use crate::script::Script;
 use crate::table::LegTable;
@@ -11,6 +11,8 @@ const LIMITS: [u64; 4] = [1, 2, 3, 64];
 pub fn add(script: &mut Script) {
     nine_legs(script);
     yard_faults(script);
+    both_directions(script);
+    struck_before_none(script);
     stray_seeds(script);
     small_tables(script);
     medium_tables(script);
@@ -52,10 +54,6 @@ fn orders_of_four() -> Vec<Vec<usize>> {
     orders
 }
 
-fn reversed(table: &LegTable) -> LegTable {
-    LegTable::from_legs(table.n(), table.legs().into_iter().map(|(i, j)| (j, i)))
-}
-
 /// Each seed on a fresh state.
 fn every_seed(script: &mut Script, table: &LegTable) {
     for limit in LIMITS {
@@ -71,6 +69,21 @@ fn seeds_in_turn(script: &mut Script, limit: u64, table: &LegTable) {
     open_table(script, limit, table);
     for seed in 1..=table.n() as u64 {
         script.pass(seed);
+    }
+}
+
+/// Out- and in-choices are both made before any leg goes.
+fn both_directions(script: &mut Script) {
+    every_seed(script, &choices_at_odds());
+    every_seed(script, &reversed(&choices_at_odds()));
+}
+
+/// Legs struck at an earlier level stay struck when a later one gives none.
+fn struck_before_none(script: &mut Script) {
+    let mut rng = Xorshift::new(404);
+    every_seed(script, &rung_and_dead_end());
+    for _ in 0..6 {
+        every_seed(script, &Family::RingWithRungs.table(&mut rng, 9));
     }
 }
 
@@ -101,8 +114,10 @@ fn small_tables(script: &mut Script) {
             every_seed(script, &family.table(&mut rng, n));
         }
     }
-    for _ in 0..12 {
-        every_seed(script, &Family::Hubs.table(&mut rng, 8));
+    for n in [5, 6, 7, 8] {
+        for _ in 0..8 {
+            every_seed(script, &Family::Hubs.table(&mut rng, n));
+        }
     }
 }
 
@@ -123,9 +138,9 @@ fn large_tables(script: &mut Script) {
         seeds_in_turn(script, 64, &family.table(&mut rng, 64));
     }
     for family in Family::ALL {
-        for limit in [2, 8, 64] {
-            open_table(script, limit, &family.table(&mut rng, 64));
-            for seed in [1, 33, 64] {
+        for (n, limit) in [(33, 3), (63, 8), (64, 2), (64, 64)] {
+            open_table(script, limit, &family.table(&mut rng, n));
+            for seed in [1, 32, n as u64] {
                 script.pass(seed);
             }
         }

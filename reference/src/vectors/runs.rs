@@ -2,7 +2,7 @@
 
 use super::openings::quoted;
 use super::{open_table, WIDE_NUMBERS};
-use crate::gen::{any_table, ring, Family, Sheet, Xorshift};
+use crate::gen::{any_table, ring, rung_and_dead_end, Family, Sheet, Xorshift};
 use crate::paper;
 use crate::program::{BUDGET, LIMIT};
 use crate::run::run;
@@ -16,6 +16,7 @@ pub fn add(script: &mut Script) {
     cut_runs(script);
     single_steps(script);
     states_amid_a_cycle(script);
+    struck_before_none(script);
     whole_runs(script);
     mixed_calls(script);
 }
@@ -79,6 +80,21 @@ fn states_amid_a_cycle(script: &mut Script) {
                     script.run(budget);
                 }
             }
+        }
+    }
+}
+
+/// The step that ends with none leaves the mark as it was, legs struck or not.
+fn struck_before_none(script: &mut Script) {
+    let opened = WorkState::opened(&rung_and_dead_end(), 64);
+    for mark in [false, true] {
+        for place in 0..=8 {
+            script.work(&WorkState {
+                place,
+                mark,
+                ..opened
+            });
+            script.run(u32::MAX);
         }
     }
 }

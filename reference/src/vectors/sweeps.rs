@@ -70,7 +70,7 @@ fn passes_by_hand(script: &mut Script) {
     }
 }
 
-/// Sweeps until nothing changes any more, then once again.
+/// Several sweeps in a row: one may make room for the next.
 fn chains_of_sweeps(script: &mut Script) {
     let mut rng = Xorshift::new(301);
     for n in 2..=12 {

@@ -1,11 +1,11 @@
 //! Bad states, calls by hand under every end, reports into lent buffers.
 
-use reference::gen::ring;
+use reference::gen::{choices_at_odds, reversed, ring, rung_and_dead_end};
 use reference::lines::station_lines;
 use reference::paper::{butterfly, NINE_LEGS};
 use reference::{open, Calls, End, LegTable, WorkState};
 
-use crate::{opened, BOTH};
+use crate::{opened, removed_legs, BOTH};
 
 fn bad_states() -> Vec<WorkState> {
     let good = opened(&ring(5));
@@ -153,26 +153,9 @@ fn by_hand_with_verdict_none() {
     }
 }
 
-/// A two-way ring of six with a leg across from 2 to 6, and behind station 4 a
-/// dead end of 7 and 8: from seed 1 level {2, 6} strikes the leg, then level
-/// {3, 5} stays, then level {4} gives none.
 #[test]
 fn legs_struck_before_none_stay_struck() {
-    let mut legs = vec![(2, 6)];
-    for (i, j) in [
-        (1, 2),
-        (2, 3),
-        (3, 4),
-        (4, 5),
-        (5, 6),
-        (6, 1),
-        (4, 7),
-        (4, 8),
-        (7, 8),
-    ] {
-        legs.extend([(i, j), (j, i)]);
-    }
-    let before = opened(&LegTable::from_legs(8, legs));
+    let before = opened(&rung_and_dead_end());
     let mut none = before;
     none.rows[1] &= !(1 << 5);
     none.end = End::None;
@@ -184,6 +167,24 @@ fn legs_struck_before_none_stay_struck() {
         let place = 1;
         assert_eq!(ran.state, WorkState { place, ..none });
         assert_eq!((ran.steps, ran.removed), (2, 1));
+    }
+}
+
+#[test]
+fn legs_go_together_after_both_directions() {
+    let table = choices_at_odds();
+    for calls in BOTH {
+        let before = opened(&table);
+        let passed = calls.pass(before, 1);
+        assert_eq!((passed.removed, passed.state.end), (2, End::Open));
+        let gone = removed_legs(&before, &passed.state);
+        assert_eq!(gone, [(3, 2), (4, 3)]);
+
+        let before = opened(&reversed(&table));
+        let passed = calls.pass(before, 1);
+        assert_eq!((passed.removed, passed.state.end), (2, End::Open));
+        let gone = removed_legs(&before, &passed.state);
+        assert_eq!(gone, [(2, 3), (3, 4)]);
     }
 }
 

@@ -61,7 +61,7 @@ loop-again c =
       omega arith,
       omega (arith, c .before .wide .ensures .0, p .low (l .loop .station) (l .loop .inv .1), p .high (l .loop .station) (l .loop .inv .1)),
       moved (c .before),
-      away-on (a .n) (l .loop .moves) (choiceOf (a .list .now)) (l .loop .inv .3) (λ e. c .if1 .left (moved (c .before) ∙ e)),
+      away-on (l .loop .moves) (choiceOf (a .list .now)) (l .loop .inv .3) (λ e. c .if1 .left (moved (c .before) ∙ e)),
     )
 
 returns-2 : tie.Need-returns-2 Inv-loop μ-loop

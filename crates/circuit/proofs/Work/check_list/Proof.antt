@@ -17,19 +17,22 @@ returns : tie.Need-returns
 unfolding checkCall
 returns c = rw (sym (c .before .is-bad .ensures) ∙ c .if1 .taken)
 
+accepted : (c : tie.Else1) → bad (c .before .before .before .args .self) ≡ false
+accepted c = sym (c .before .is-bad .ensures) ∙ c .if1 .left
+
 returns-2 : tie.Need-returns-2
 unfolding checkCall
-returns-2 c = rw (sym (c .before .before .is-bad .ensures) ∙ c .before .if1 .left, ne-eqb _ _ (c .if2 .taken))
-
-accepted : (c : tie.Else2) → bad (c .before .before .before .before .args .self) ≡ false
-accepted c = sym (c .before .before .is-bad .ensures) ∙ c .before .if1 .left
+returns-2 c = rw (accepted (c .before), ne-eqb _ _ (c .if2 .taken))
 
 is-list-requires : tie.Need-is-list-requires
-is-list-requires c κs = let g = good _ (accepted (c .before .before .before)) in (omega (arith, g .two), g .most, c .before .before .before .if2 .left)
+is-list-requires c κs =
+    let l = c .before .before .before in
+    let g = good _ (accepted (l .before)) in
+    (omega (arith, g .two), g .most, l .if2 .left)
 
 returns-3 : tie.Need-returns-3
 unfolding checkCall
-returns-3 c = let l = c .before .before .before .before in rw (accepted l, eq-eqb _ _ (l .if2 .left), c .is-list .ensures)
+returns-3 c = let l = c .before .before .before .before in rw (accepted (l .before), eq-eqb _ _ (l .if2 .left), c .is-list .ensures)
 
 pub check-list-spec : {M : Type 1} → statement M
 check-list-spec = tie.close (tie.spec is-bad-requires returns returns-2 is-list-requires returns-3)

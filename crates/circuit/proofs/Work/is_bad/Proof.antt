@@ -21,12 +21,15 @@ stray-requires c κs =
 outside-requires-2 : tie.Need-outside-requires-2
 outside-requires-2 c κs = search needs
 
+last-place-requires : tie.Need-last-place-requires
+last-place-requires c κs = search needs
+
 returns-2 : tie.Need-returns-2
 unfolding bad
 returns-2 c =
-    let l = c .before .before .before .before .before .before in
-    rw (sym (l .before .outside .ensures) ∙ l .if1 .left, c .before .before .stray .ensures, c .before .outside2 .ensures)
+    let l = c .before .before .before .before .before .before .before in
+    rw (sym (l .before .outside .ensures) ∙ l .if1 .left, c .before .before .before .stray .ensures, c .before .before .outside2 .ensures, c .before .last-place .ensures)
 
 pub is-bad-spec : {M : Type 1} → statement M
 is-bad-spec =
-    tie.close (tie.spec outside-requires returns stray-requires outside-requires-2 returns-2)
+    tie.close (tie.spec outside-requires returns stray-requires outside-requires-2 last-place-requires returns-2)

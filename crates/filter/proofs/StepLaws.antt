@@ -1,0 +1,118 @@
+-- A step of the run by cases, and the run's loop, as the code goes through them. Assumes nothing.
+use mathlib.Core.Path.{_≡_, refl, sym, ap, ap₂, _∙_, subst}
+use mathlib.Core.Bool.{Bool, true, false, cond, _||_}
+use mathlib.Core.List.{List}
+use Prim.Native.Nat.{ℕ, zero, suc, _+_, _-_, _*_, _≤_, _<_}
+use native.Mathlib.Nat.{add-zero, le-dest, not-suc-le-zero}
+use native.Mathlib.Numerals.{add-one}
+use native.Mathlib.Omega.{arith}
+use lib.Dec.{ltb}
+use Rattle.bitset.specs.Sets.{has, size, sum}
+use Rattle.bitset.proofs.BoolLaws.{cond-true, cond-false}
+use Rattle.bitset.proofs.OnesLaws.{count-le}
+use Rattle.circuit.specs.declared.Work.{Work}
+use Rattle.circuit.specs.declared.End.{End}
+use Rattle.circuit.specs.declared.Verdict.{Verdict}
+use Rattle.circuit.specs.declared.Called.{Called}
+use Rattle.circuit.specs.declared.Ran.{Ran}
+use Rattle.circuit.specs.declared.Answer.the-variants.{Taken}
+use Rattle.circuit.specs.declared.End.the-variants.{Open, Stable}
+use Rattle.circuit.specs.Legs.{row, legs}
+use Rattle.circuit.specs.State.{isOpen, rowsOf, moved, lastPlace, Good}
+use Rattle.filter.specs.Sweep.{sweep}
+use Rattle.filter.specs.Pass.{pass}
+use Rattle.filter.specs.Calls.{gone, halted, atPlace, advanced, cycled, after, step, idle, onward, runFrom}
+use Rattle.filter.proofs.CallLaws.{Leads, step-leads, runFrom-leads, run-removed}
+use Rattle.filter.proofs.RunLaws.{both, run-open, run-add, run-same}
+
+-- ---- what stands at a place
+
+pub at-first : (w : Work) (k : ℕ) → k ≡ 0 → sweep (w .n) (rowsOf w) ≡ atPlace w k
+unfolding atPlace
+at-first w k e = ap (atPlace w) (sym e)
+
+pub at-seed : (w : Work) (k : ℕ) → 0 < k → pass (w .n) (rowsOf w) (w .limit) (k - 1) ≡ atPlace w k
+unfolding atPlace
+at-seed w zero l = absurd (not-suc-le-zero l)
+at-seed w (suc k) l = let e : suc k - 1 ≡ k = omega arith in ap (pass (w .n) (rowsOf w) (w .limit)) e
+
+-- ---- the state after a step
+
+module _ (w : Work) (v : Verdict) where
+  mark : Bool
+  mark = w .mark || ltb 0 (gone w v)
+
+  on : Work
+  on = cond (ltb (w .place) (lastPlace (w .n))) (advanced w v mark) (cycled w v mark)
+
+  pub after-none : v .none ≡ true → halted w v ≡ after w v
+  unfolding after mark on
+  after-none e = sym (cond-true (halted w v) on e)
+
+  module _ (m : Bool) (is : m ≡ w .mark || ltb 0 (gone w v)) (e : v .none ≡ false) where
+    pub after-next : ltb (w .place) (lastPlace (w .n)) ≡ true → moved w (v .left) (w .place + 1) m Open ≡ after w v
+    unfolding after mark on
+    after-next l =
+        ap₂ (λ (k : ℕ) (b : Bool). moved w (v .left) k b Open) (add-one (w .place)) is ∙ sym (cond-true (advanced w v mark) (cycled w v mark) l)
+        ∙ sym (cond-false (halted w v) on e)
+
+    pub after-last : ltb (w .place) (lastPlace (w .n)) ≡ false → moved w (v .left) 0 false (cond m Open Stable) ≡ after w v
+    unfolding after mark on
+    after-last l =
+        ap (λ (b : Bool). moved w (v .left) 0 false (cond b Open Stable)) is ∙ sym (cond-false (advanced w v mark) (cycled w v mark) l)
+        ∙ sym (cond-false (halted w v) on e)
+
+pub step-is : (w : Work) (v : Verdict) (u : Work) (r : ℕ) → v ≡ atPlace w (w .place) → r ≡ gone w v → u ≡ after w v → record { answer = Taken; work = u; removed = r } ≡ step w
+unfolding step
+step-is w v u r e p q =
+    ap₂ (λ (x : Work) (y : ℕ). record { answer = Taken; work = x; removed = y }) q p
+    ∙ ap (λ (x : Verdict). record { answer = Taken; work = after w x; removed = gone w x }) e
+
+-- ---- how many legs there can be
+
+sum-most : (m : ℕ) (f : ℕ → ℕ) → ((k : ℕ) → f k ≤ 64) → sum m f ≤ 64 * m
+unfolding sum
+sum-most zero f h = omega arith
+sum-most (suc m) f h = omega (arith, sum-most m f h, h m)
+
+pub legs-most : (n : ℕ) (t : List ℕ) → n ≤ 64 → legs n t ≤ 4096
+unfolding legs size
+legs-most n t le = omega (arith, sum-most n (λ i. size n (row t i)) (λ i. omega (arith, count-le n (has (row t i)))))
+
+-- ---- the loop: what the first `steps` steps of the run have come to
+
+pub record Run (start : Work) (w : Work) (steps removed : ℕ) : Type 0 where
+  pub is : runFrom steps start ≡ record { answer = Taken; work = w; steps = steps; removed = removed }
+  pub good : Good w
+
+pub run-start : (w : Work) → Good w → Run w w 0 0
+unfolding runFrom
+run-start w g = record { is = refl; good = g }
+
+module _ {start w : Work} {steps removed : ℕ} (h : Run start w steps removed) where
+  -- a run removes no more legs than there are
+  pub run-fits : Good start → removed ≤ legs (start .n) (rowsOf start)
+  run-fits g =
+      let e = ap (λ (r : Ran). r .removed) (h .is) in
+      omega (arith, e, run-removed steps start g)
+
+  pub run-turn : isOpen (w .end) ≡ true → (s : Called) → s ≡ step w → Run start (s .work) (steps + 1) (removed + s .removed)
+  unfolding runFrom
+  run-turn o s e =
+      record {
+        is =
+            run-add steps 1 start ∙ ap (λ (r : Ran). both r (runFrom 1 (r .work))) (h .is) ∙ ap (both (record { answer = Taken; work = w; steps = steps; removed = removed })) (run-open 0 w o)
+            ∙ ap (λ (k : ℕ). record { answer = Taken; work = step w .work; steps = steps + 1; removed = removed + k }) (add-zero (step w .removed))
+            ∙ ap (λ (q : Called). record { answer = Taken; work = q .work; steps = steps + 1; removed = removed + q .removed }) (sym e);
+        good = subst (λ (q : Called). Good (q .work)) (sym e) (step-leads w (h .good) .keeps (h .good));
+      }
+
+  -- the budget is spent
+  pub run-spent : (budget : ℕ) → steps ≡ budget → record { answer = Taken; work = w; steps = steps; removed = removed } ≡ runFrom budget start
+  run-spent budget e = sym (h .is) ∙ ap (λ (b : ℕ). runFrom b start) e
+
+  -- the end is not open
+  pub run-ended : (budget : ℕ) → steps ≤ budget → isOpen (w .end) ≡ false → record { answer = Taken; work = w; steps = steps; removed = removed } ≡ runFrom budget start
+  run-ended budget l o =
+      let d = le-dest l in
+      sym (ap (λ (b : ℕ). runFrom b start) (sym (d .1)) ∙ run-same steps (d .0) start (ap (λ (r : Ran). isOpen (r .work .end)) (h .is) ∙ o) ∙ h .is)

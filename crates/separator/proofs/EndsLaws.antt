@@ -1,0 +1,207 @@
+-- The ends of the pairs on which a mark stands, as the code finds them: the heads of one station, and a walk over the stations of a level.
+-- Assumes nothing.
+use mathlib.Core.Path.{_≡_, refl, sym, ap, ap₂, _∙_, subst}
+use mathlib.Core.Bool.{Bool, true, false, not, _&&_, _||_, and-comm, or-assoc, or-false}
+use mathlib.Core.List.{List}
+use Prim.Native.Nat.{ℕ, _-_, _*_, _%_, _^_, _<_}
+use native.Mathlib.Omega.{arith}
+use lib.Dec.{eqb, ltb}
+use lib.Pow.{pow-lt}
+use lib.Bits.{bitAnd, bitOr, and-le-l, and-le-r, or-lt}
+use lib.Count.{trailingZeros}
+use lib.ListN.{getD}
+use borrow.Author.Tests.{eq-eqb, eqb-true, ltb-true, lt-ltb}
+use Rattle.bitset.specs.Sets.{has, setOf, any, meet}
+use Rattle.bitset.proofs.BoolLaws.{iff, is-false, and-intro, and-l, and-r, taut2, taut3}
+use Rattle.bitset.proofs.HasLaws.{has-zero, has-and, has-or}
+use Rattle.bitset.proofs.SetLaws.{has-setOf, setOf-lt, eq-setOf, meet-intro}
+use Rattle.bitset.proofs.OnesLaws.{has-pos}
+use Rattle.bitset.proofs.QuantLaws.{any-intro, any-elim, any-none, any-ext}
+use Rattle.bitset.proofs.LeastLaws.{trailing-least, has-clear}
+use Rattle.bitset.proofs.MemberLaws.{any-least, any-empty}
+use Rattle.bitset.proofs.MachineLaws.{shl-one, has-insert, has-remove}
+use Rattle.circuit.specs.Legs.{row, leg, col}
+use Rattle.separator.specs.Level.{stands}
+use Rattle.separator.specs.Spares.{pair, markAt, through, bare, entered, EndsOf}
+
+eqb-swap : (a b : ℕ) → eqb a b ≡ eqb b a
+eqb-swap a b = iff (eqb a b) (eqb b a) (λ e. eq-eqb b a (sym (eqb-true a b e))) (λ e. eq-eqb a b (sym (eqb-true b a e)))
+
+pub markAt-pair : (t : List ℕ) (s : ℕ) (cs : List ℕ) (i j m : ℕ) → markAt t s cs i j m ≡ true → (has s i ≡ true) × (has s j ≡ true)
+unfolding markAt pair
+markAt-pair t s cs i j m e =
+    let f = and-l (has s i && has s j) (not (eqb i j)) (and-l (has s i && has s j && not (eqb i j)) (stands 64 t cs i j m) e) in
+    (and-l (has s i) (has s j) f, and-r (has s i) (has s j) f)
+
+-- ---- a word that is a set: its bound and its bits
+
+pub word-lt : {w : ℕ} (m : ℕ) (p : ℕ → Bool) → w ≡ setOf m p → w < 2 ^ m
+word-lt m p e = subst (λ (w : ℕ). w < 2 ^ m) (sym e) (setOf-lt m p)
+
+pub word-has : {w : ℕ} (m : ℕ) (p : ℕ → Bool) → w ≡ setOf m p → (k : ℕ) → k < m → has w k ≡ p k
+word-has m p e k l = ap (λ (w : ℕ). has w k) e ∙ has-setOf m p k l
+
+-- ---- `a & w != 0`
+
+meet-some : (a w : ℕ) → w < 2 ^ 64 → 0 < bitAnd a w → meet 64 a w ≡ true
+meet-some a w h p =
+    let k = trailingZeros 64 (bitAnd a w) in
+    let r = trailing-least 64 (bitAnd a w) p (omega (arith, and-le-r a w)) in
+    let e : has a k && has w k ≡ true = sym (has-and a w k) ∙ r .member in
+    meet-intro 64 a w k (r .below) (and-l (has a k) (has w k) e) (and-r (has a k) (has w k) e)
+
+meet-none : (a w : ℕ) → bitAnd a w ≡ 0 → meet 64 a w ≡ false
+unfolding meet
+meet-none a w e = any-none 64 (λ k. has a k && has w k) (λ k l. sym (has-and a w k) ∙ ap (λ (x : ℕ). has x k) e ∙ has-zero k)
+
+-- ---- the small functions
+
+pub tail-more : (w i e : ℕ) → w < 2 ^ 64 → i < 64 → 0 < e → bitOr w ((1 * 2 ^ i) % 2 ^ 64) ≡ setOf 64 (λ k. has w k || eqb k i && ltb 0 e)
+tail-more w i e h l p =
+    ap (bitOr w) (shl-one 64 i l)
+    ∙ eq-setOf 64 (bitOr w (2 ^ i)) _ (or-lt 64 w (2 ^ i) h (pow-lt l))
+    (λ k lk. has-insert w i k
+    ∙ ap (λ (x : Bool). has w k || x) (iff (eqb k i) (eqb k i && ltb 0 e) (λ q. and-intro q (lt-ltb 0 e p)) (and-l (eqb k i) (ltb 0 e))))
+
+pub tail-same : (w i e : ℕ) → w < 2 ^ 64 → e ≡ 0 → w ≡ setOf 64 (λ k. has w k || eqb k i && ltb 0 e)
+tail-same w i e h z =
+    eq-setOf 64 w _ h (λ k l.
+    let none : eqb k i && ltb 0 e ≡ true → ⊥ = λ q. let p = ltb-true 0 e (and-r (eqb k i) (ltb 0 e) q) in omega arith in
+    sym (ap (λ (x : Bool). has w k || x) (is-false (eqb k i && ltb 0 e) none) ∙ or-false (has w k)))
+
+pub entered-is : (t : List ℕ) (s w u : ℕ) → s < 2 ^ 64 → u ≡ setOf 64 (λ k. any 64 (λ i. has w i && has (getD t i 0) k))
+    → bitAnd u s ≡ entered t s w
+unfolding entered meet col leg row
+entered-is t s w u h e =
+    eq-setOf 64 (bitAnd u s) _ (omega (arith, and-le-r u s))
+    (λ k l. has-and u s k ∙ and-comm (has u k) (has s k) ∙ ap (λ (x : Bool). has s k && x)
+    (word-has 64 (λ k. any 64 (λ i. has w i && has (getD t i 0) k)) e k l
+    ∙ any-ext 64 _ _ (λ i li.
+    and-comm (has w i) (has (getD t i 0) k) ∙ ap (λ (x : Bool). x && has w i) (sym (has-setOf 64 (λ i. has (getD t i 0) k) i li)))))
+
+-- `v & !(1 << i)`: the stations of v other than i
+others : (v i : ℕ) (p : ℕ → Bool) → v < 2 ^ 64 → i < 64 → ((j : ℕ) → j < 64 → has v j && not (eqb i j) ≡ p j)
+    → bitAnd v ((2 ^ 64 - 1) - (1 * 2 ^ i) % 2 ^ 64) ≡ setOf 64 p
+others v i p h l f =
+    ap (λ (x : ℕ). bitAnd v ((2 ^ 64 - 1) - x)) (shl-one 64 i l)
+    ∙ eq-setOf 64 (bitAnd v ((2 ^ 64 - 1) - 2 ^ i)) p (omega (arith, and-le-l v ((2 ^ 64 - 1) - 2 ^ i)))
+    (λ j lj. has-remove 64 v i j l lj ∙ ap (λ (x : Bool). has v j && not x) (eqb-swap j i) ∙ f j lj)
+
+pub through-some : (t : List ℕ) (s w v i : ℕ) → i < 64 → has s i ≡ true → v ≡ entered t s w → w < 2 ^ 64 → 0 < bitAnd (getD t i 0) w
+    → bitAnd v ((2 ^ 64 - 1) - (1 * 2 ^ i) % 2 ^ 64) ≡ setOf 64 (through t s w i)
+unfolding entered markAt pair stands row
+through-some t s w v i l e q h p =
+    let from : ℕ → Bool = λ j. meet 64 (col 64 t j) w in
+    others v i (through t s w i) (word-lt 64 (λ j. has s j && from j) q) l (λ j lj.
+    ap (λ (x : Bool). x && not (eqb i j)) (word-has 64 (λ j. has s j && from j) q j lj)
+    ∙ taut3 (λ a b c. a && b && not c) (λ a b c. a && not c && b) refl (has s j) (from j) (eqb i j)
+    ∙ ap₂ (λ (x y : Bool). x && has s j && not (eqb i j) && (y && from j)) (sym e) (sym (meet-some (getD t i 0) w h p)))
+
+pub through-none : (t : List ℕ) (s w i : ℕ) → bitAnd (getD t i 0) w ≡ 0 → 0 ≡ setOf 64 (through t s w i)
+unfolding markAt stands row
+through-none t s w i z =
+    eq-setOf 64 0 _ (omega arith) (λ j l. has-zero j ∙ sym (
+    ap (λ (x : Bool). pair s i j && (x && meet 64 (col 64 t j) w)) (meet-none (getD t i 0) w z)
+    ∙ taut2 (λ a b. a && false) (λ a b. false) refl (pair s i j) true))
+
+pub bare-is : (t : List ℕ) (s i : ℕ) → s < 2 ^ 64 → i < 64 → has s i ≡ true
+    → bitAnd (bitAnd (getD t i 0) s) ((2 ^ 64 - 1) - (1 * 2 ^ i) % 2 ^ 64) ≡ setOf 64 (bare t s i)
+unfolding markAt pair stands leg row
+bare-is t s i h l e =
+    let r : ℕ = getD t i 0 in
+    others (bitAnd r s) i (bare t s i) (omega (arith, and-le-r r s)) l (λ j lj.
+    ap (λ (x : Bool). x && not (eqb i j)) (has-and r s j)
+    ∙ taut3 (λ a b c. a && b && not c) (λ a b c. b && not c && a) refl (has r j) (has s j) (eqb i j)
+    ∙ ap (λ (x : Bool). x && has s j && not (eqb i j) && has r j) (sym e))
+
+-- ---- the walk over the stations of s, the least first: `on i j` says that the mark stands on the pair (i, j), as it does for stations i of s alone
+
+pub record Walked (on : ℕ → ℕ → Bool) (s rest tails heads : ℕ) : Type 0 where
+  pub rest-fits : rest < 2 ^ 64
+  pub tails-fit : tails < 2 ^ 64
+  pub heads-fit : heads < 2 ^ 64
+  pub within : (k : ℕ) → has rest k ≡ true → has s k ≡ true
+  pub tail : (k : ℕ) → k < 64 → has tails k || has rest k && any 64 (on k) ≡ has s k && any 64 (on k)
+  pub head : (k : ℕ) → k < 64 → has heads k || any 64 (λ i. has rest i && on i k) ≡ any 64 (λ i. has s i && on i k)
+
+module _ (on : ℕ → ℕ → Bool) (s : ℕ) where
+  pub walk-start : s < 2 ^ 64 → Walked on s s 0 0
+  walk-start h =
+      record {
+        rest-fits = h;
+        tails-fit = omega arith;
+        heads-fit = omega arith;
+        within = λ k e. e;
+        tail = λ k l. ap (λ (x : Bool). x || has s k && any 64 (on k)) (has-zero k);
+        head = λ k l. ap (λ (x : Bool). x || any 64 (λ i. has s i && on i k)) (has-zero k);
+      }
+
+  -- a turn at the least station of the rest
+  pub walk-turn : {rest tails heads : ℕ} (more tails′ : ℕ) → Walked on s rest tails heads → 0 < rest
+      → more ≡ setOf 64 (on (trailingZeros 64 rest))
+      → tails′ ≡ setOf 64 (λ k. has tails k || eqb k (trailingZeros 64 rest) && ltb 0 more)
+      → Walked on s (bitAnd rest (rest - 1)) tails′ (bitOr heads more)
+  walk-turn {rest} {tails} {heads} more tails′ v p hm ht =
+      record {
+        rest-fits = omega (arith, v .rest-fits, and-le-l rest (rest - 1));
+        tails-fit = word-lt 64 tailed ht;
+        heads-fit = or-lt 64 heads more (v .heads-fit) fits;
+        within = λ k q. v .within k (and-l (has rest k) (not (eqb k i)) (sym (has-clear 64 rest k p (v .rest-fits)) ∙ q));
+        tail = λ k l.
+            ap₂ (λ (x y : Bool). x || y && any 64 (on k)) (word-has 64 tailed ht k l) (has-clear 64 rest k p (v .rest-fits))
+            ∙ step k (eqb k i) refl ∙ v .tail k l;
+        head = λ k l.
+            ap (λ (x : Bool). x || left k) (has-or heads more k ∙ ap (λ (x : Bool). has heads k || x) (at k l))
+            ∙ or-assoc (has heads k) (on i k) (left k)
+            ∙ ap (λ (x : Bool). has heads k || x) (sym (any-least 64 rest (λ i. on i k) p (v .rest-fits)))
+            ∙ v .head k l;
+      }
+    where
+      i : ℕ
+      i = trailingZeros 64 rest
+
+      tailed : ℕ → Bool
+      tailed k = has tails k || eqb k i && ltb 0 more
+
+      left : ℕ → Bool
+      left k = any 64 (λ i. has (bitAnd rest (rest - 1)) i && on i k)
+
+      fits : more < 2 ^ 64
+      fits = word-lt 64 (on i) hm
+
+      at : (k : ℕ) → k < 64 → has more k ≡ on i k
+      at k l = word-has 64 (on i) hm k l
+
+      some : ltb 0 more ≡ any 64 (on i)
+      some =
+          iff (ltb 0 more) (any 64 (on i))
+          (λ q.
+          let k : ℕ = trailingZeros 64 more in
+          let r = trailing-least 64 more (ltb-true 0 more q) fits in
+          any-intro 64 (on i) k (r .below) (sym (at k (r .below)) ∙ r .member))
+          (λ q. let r = any-elim 64 (on i) q in lt-ltb 0 more (has-pos more (r .0) (at (r .0) (r .1) ∙ r .2)))
+
+      step : (k : ℕ) (b : Bool) → eqb k i ≡ b
+          → (has tails k || b && ltb 0 more) || has rest k && not b && any 64 (on k) ≡ has tails k || has rest k && any 64 (on k)
+      step k true q =
+          let here : k ≡ i = eqb-true k i q in
+          let m : has rest k ≡ true = ap (has rest) here ∙ trailing-least 64 rest p (v .rest-fits) .member in
+          let f : ltb 0 more ≡ any 64 (on k) = some ∙ ap (λ (x : ℕ). any 64 (on x)) (sym here) in
+          ap₂ (λ (x y : Bool). (has tails k || x) || y && false && any 64 (on k)) f m
+          ∙ or-false (has tails k || any 64 (on k)) ∙ ap (λ (x : Bool). has tails k || x && any 64 (on k)) (sym m)
+      step k false q =
+          taut3 (λ a b c. (a || false) || b && true && c) (λ a b c. a || b && c) refl (has tails k) (has rest k) (any 64 (on k))
+
+  pub walk-end : {rest tails heads : ℕ} → ((i j : ℕ) → on i j ≡ true → has s i ≡ true) → Walked on s rest tails heads → rest ≡ 0
+      → EndsOf on tails heads
+  walk-end {rest} {tails} {heads} only v z =
+      record {
+        tail = eq-setOf 64 tails _ (v .tails-fit) (λ k l.
+            sym (or-false (has tails k)) ∙ ap (λ (x : Bool). has tails k || x && any 64 (on k)) (sym (ap (λ (w : ℕ). has w k) z ∙ has-zero k))
+            ∙ v .tail k l ∙ iff (has s k && any 64 (on k)) (any 64 (on k)) (and-r (has s k) (any 64 (on k)))
+            (λ e. let r = any-elim 64 (on k) e in and-intro (only k (r .0) (r .2)) e));
+        head = eq-setOf 64 heads _ (v .heads-fit) (λ k l.
+            sym (or-false (has heads k)) ∙ ap (λ (x : Bool). has heads k || x) (sym (any-empty 64 (λ i. on i k)))
+            ∙ ap (λ (w : ℕ). has heads k || any 64 (λ i. has w i && on i k)) (sym z) ∙ v .head k l
+            ∙ any-ext 64 _ _ (λ i li. iff (has s i && on i k) (on i k) (and-r (has s i) (on i k)) (λ e. and-intro (only i k e) e)));
+      }

@@ -1,0 +1,95 @@
+-- Components found one after the other, as the code finds them. Assumes nothing.
+use mathlib.Core.Path.{_≡_, refl, sym, ap, ap₂, _∙_}
+use mathlib.Core.Bool.{Bool, true, not, _&&_}
+use mathlib.Core.List.{List, [], _∷_, _++_}
+use Prim.Native.Nat.{ℕ, zero, suc, _+_, _-_, _^_, _≤_, _<_}
+use native.Mathlib.Nat.{sub-zero}
+use native.Mathlib.Omega.{arith}
+use lib.Bits.{bitAnd, and-le-l}
+use lib.Count.{ones, ones-le, trailingZeros}
+use lib.ListN.{length, take, set}
+use borrow.Author.Tests.{ne-eqb}
+use Rattle.bitset.specs.Sets.{has, first, minus, Least}
+use Rattle.bitset.proofs.BoolLaws.{and-l, cond-false}
+use Rattle.bitset.proofs.FirstLaws.{first-at, before-first}
+use Rattle.bitset.proofs.SetLaws.{has-diff}
+use Rattle.bitset.proofs.OnesLaws.{ones-strict}
+use Rattle.bitset.proofs.LeastLaws.{trailing-least}
+use Rattle.bitset.proofs.MachineLaws.{least-unique}
+use Rattle.separator.specs.Components.{grow, componentsFrom}
+use Rattle.separator.proofs.WidthLaws.{wide, member-below, minus-of}
+use Rattle.separator.proofs.ArrayLaws.{written-more, written-all}
+
+-- the first of the n stations in a set is the one that `trailing_zeros` finds
+first-is : (n rest : ℕ) → n ≤ 64 → 0 < rest → rest < 2 ^ n → first n (has rest) ≡ trailingZeros 64 rest
+first-is n rest top p h =
+    let z = trailing-least 64 rest p (wide top h) in
+    let f = first-at n (has rest) (trailingZeros 64 rest) (member-below n rest (trailingZeros 64 rest) h (z .member)) (z .member) in
+    let g : Least 64 rest (first n (has rest)) = record { below = omega (arith, f .0); member = f .1; least = before-first n (has rest) } in
+    least-unique g z
+
+-- `rest & !c` has lost a station
+pub ones-less : (rest c z : ℕ) → rest < 2 ^ 64 → c < 2 ^ 64 → z < 64 → has rest z ≡ true → has c z ≡ true
+    → ones (bitAnd rest ((2 ^ 64 - 1) - c)) < ones rest
+ones-less rest c z hr hc l e f =
+    ones-strict 64 (bitAnd rest ((2 ^ 64 - 1) - c)) rest z (omega (arith, and-le-l rest ((2 ^ 64 - 1) - c))) hr
+    (λ k d q. and-l (has rest k) (not (has c k)) (sym (has-diff 64 rest c k hc d) ∙ q)) l e
+    (has-diff 64 rest c z hc l ∙ ap₂ (λ (a b : Bool). a && not b) e f)
+
+module _ (n : ℕ) (R : ℕ → ℕ → Bool) (room : ℕ) where
+  -- the components of the stations of `rest`, f at most
+  abbrev list : ℕ → ℕ → List ℕ
+  list f rest = componentsFrom f n R room rest
+
+  parts-more : (f rest c : ℕ) → 0 < rest → c ≡ grow n n R room (2 ^ first n (has rest)) → list (suc f) rest ≡ c ∷ list f (minus n rest c)
+  unfolding componentsFrom
+  parts-more f rest c p e = cond-false [] _ (ne-eqb rest 0 (λ z. omega arith)) ∙ ap (λ (x : ℕ). x ∷ list f (minus n rest x)) (sym e)
+
+  parts-none : (f : ℕ) → list f 0 ≡ []
+  unfolding componentsFrom
+  parts-none zero = refl
+  parts-none (suc f) = refl
+
+  -- `count` components are found, and `rest` has the stations of none of them
+  pub record Listing (part : List ℕ) (count rest : ℕ) : Type 0 where
+    pub below : rest < 2 ^ n
+    pub whole : take count part ++ list (n - count) rest ≡ list n room
+    pub enough : count + ones rest ≤ n
+
+  pub listing-start : (part : List ℕ) → room < 2 ^ n → Listing part 0 room
+  listing-start part h =
+      record { below = h; whole = ap (λ (f : ℕ). list f room) (sub-zero n); enough = omega (arith, ones-le n room h) }
+
+  module _ {part : List ℕ} {count rest : ℕ} (g : Listing part count rest) where
+    pub listing-turn : (c : ℕ) → n ≤ 64 → 0 < rest → count < length part → c < 2 ^ 64 → has c (trailingZeros 64 rest) ≡ true
+        → c ≡ grow n n R room (2 ^ trailingZeros 64 rest) → Listing (set part count c) (count + 1) (bitAnd rest ((2 ^ 64 - 1) - c))
+    listing-turn c top p h hc member e =
+        record {
+          below = omega (arith, and-le-l rest ((2 ^ 64 - 1) - c), g .below);
+          whole = written-more part count (list n room) c (list (n - count) rest) (list f (bitAnd rest ((2 ^ 64 - 1) - c))) h more (g .whole);
+          enough = omega (arith, g .enough, less);
+        }
+      where
+        low : Least 64 rest (trailingZeros 64 rest)
+        low = trailing-least 64 rest p (wide top (g .below))
+
+        less : ones (bitAnd rest ((2 ^ 64 - 1) - c)) < ones rest
+        less = ones-less rest c (trailingZeros 64 rest) (wide top (g .below)) hc (low .below) (low .member) member
+
+        f : ℕ
+        f = n - (count + 1)
+
+        fuel : n - count ≡ suc f
+        fuel = omega (arith, g .enough, less)
+
+        grown : c ≡ grow n n R room (2 ^ first n (has rest))
+        grown = e ∙ ap (λ (z : ℕ). grow n n R room (2 ^ z)) (sym (first-is n rest top p (g .below)))
+
+        more : list (n - count) rest ≡ c ∷ list f (bitAnd rest ((2 ^ 64 - 1) - c))
+        more =
+            ap (λ (k : ℕ). list k rest) fuel
+            ∙ parts-more f rest c p grown
+            ∙ ap (λ (x : ℕ). c ∷ list f x) (sym (minus-of rest c top (g .below) hc))
+
+    pub listing-end : rest ≡ 0 → take count part ≡ list n room
+    listing-end z = written-all part count (list n room) (list (n - count) rest) (ap (list (n - count)) z ∙ parts-none (n - count)) (g .whole)

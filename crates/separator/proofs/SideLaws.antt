@@ -1,0 +1,111 @@
+-- One side of a level, out or in: its words, gathered component by component, and their assignment. Assumes nothing.
+use mathlib.Core.Path.{_≡_, sym, ap, ap₂, _∙_, subst}
+use mathlib.Core.Logic.{inl, inr, ⊎-elim}
+use mathlib.Core.Bool.{Bool, true, false, not, _&&_, _||_, or-comm, or-false, false≢true}
+use mathlib.Core.List.{List}
+use Prim.Native.Nat.{ℕ, suc, _-_, _^_, _≤_, _<_}
+use native.Mathlib.Nat.{not-suc-le-zero}
+use native.Mathlib.Omega.{arith}
+use lib.Bits.{bitAnd, bitOr, and-le-l, or-lt}
+use lib.Count.{trailingZeros}
+use lib.ListN.{getD, length, set, length-set}
+use lib.Seq.{getD-set-same, getD-set-other}
+use borrow.Author.Tests.{not-true}
+use Rattle.bitset.specs.Sets.{has, setOf, any}
+use Rattle.bitset.proofs.BoolLaws.{not-both, and-l, and-r}
+use Rattle.bitset.proofs.HasLaws.{has-above, has-or}
+use Rattle.bitset.proofs.SetLaws.{setOf-elim, setOf-ext, eq-setOf, has-diff}
+use Rattle.bitset.proofs.QuantLaws.{at-or-below, any-elim}
+use Rattle.bitset.proofs.LeastLaws.{trailing-least}
+use Rattle.bitset.proofs.MachineLaws.{within-of-diff}
+use Rattle.matching.specs.Matching.{Inside, Exact}
+use Rattle.separator.specs.Spares.{Side, Settled}
+use Rattle.separator.proofs.EndsLaws.{word-lt, word-has}
+
+-- ---- gathering: the bare marks first, then one component after the other
+
+module _ (may : ℕ → ℕ → ℕ → Bool) where
+  -- the stations with the mark m
+  marked : ℕ → ℕ → Bool
+  marked m x = any 64 (λ y. may x y m)
+
+  pub side-start : (fits : List ℕ) (some : ℕ) → length fits ≡ 64 → some ≡ setOf 64 (λ x. any 64 (λ y. may x y 0)) → Side may 0 fits some
+  unfolding any
+  side-start fits some len e =
+      record {
+        size = len;
+        component = λ c l. absurd (not-suc-le-zero l);
+        any-mark = e ∙ setOf-ext 64 _ _ (λ x l. sym (or-false (any 64 (λ y. may x y 0))));
+      }
+
+  pub side-more : (c : ℕ) (fits : List ℕ) (some w d : ℕ) → Side may c fits some → c < 64
+      → w ≡ setOf 64 (λ x. any 64 (λ y. may x y (suc c))) → d ≡ suc c → Side may d (set fits c w) (bitOr some w)
+  unfolding any marked
+  side-more c fits some w d S l e q = subst (λ (n : ℕ). Side may n (set fits c w) (bitOr some w)) (sym q) more
+    where
+      any-before : ℕ → Bool
+      any-before x = any (suc c) (λ m. marked m x)
+
+      component : (b : ℕ) → b < suc c → getD (set fits c w) b 0 ≡ setOf 64 (marked (suc b))
+      component b lb =
+          ⊎-elim
+          (λ (z : b ≡ c).
+          ap (λ (n : ℕ). getD (set fits c w) n 0) z ∙ getD-set-same fits c w 0 (omega (arith, S .size)) ∙ e
+          ∙ ap (λ (n : ℕ). setOf 64 (marked (suc n))) (sym z))
+          (λ (g : b < c). getD-set-other fits c b w 0 (λ z. omega arith) ∙ S .component b g)
+          (at-or-below lb)
+
+      more : Side may (suc c) (set fits c w) (bitOr some w)
+      more =
+          record {
+            size = length-set fits c w ∙ S .size;
+            component = component;
+            any-mark =
+                eq-setOf 64 (bitOr some w) (λ x. any (suc (suc c)) (λ m. marked m x))
+                (or-lt 64 some w (word-lt 64 any-before (S .any-mark)) (word-lt 64 (marked (suc c)) e))
+                (λ x lx. has-or some w x
+                ∙ ap₂ (λ (a b : Bool). a || b) (word-has 64 any-before (S .any-mark) x lx) (word-has 64 (marked (suc c)) e x lx)
+                ∙ or-comm (any-before x) (marked (suc c) x));
+          }
+
+  -- only stations of s have marks, so the words lie in s
+  pub side-inside : {p : ℕ} {fits : List ℕ} {some : ℕ} (s : ℕ) → ((x y m : ℕ) → may x y m ≡ true → has s x ≡ true)
+      → Side may p fits some → Inside fits p s
+  side-inside s only S c x l e =
+      let r = setOf-elim 64 (λ x. any 64 (λ y. may x y (suc c))) x (ap (λ (w : ℕ). has w x) (sym (S .component c l)) ∙ e) in
+      let y = any-elim 64 (λ y. may x y (suc c)) (r .1) in
+      only x (y .0) (suc c) (y .2)
+
+pub side-at : {may : ℕ → ℕ → ℕ → Bool} {c p : ℕ} {fits : List ℕ} {some : ℕ} → Side may c fits some → c ≡ p → Side may p fits some
+side-at {may} {c} {p} {fits} {some} S e = subst (λ (n : ℕ). Side may n fits some) e S
+
+-- ---- the test `s & !some != 0`, and the assignment
+
+missing : (s w : ℕ) → s < 2 ^ 64 → w < 2 ^ 64 → 0 < bitAnd s ((2 ^ 64 - 1) - w) → (x : ℕ) × (has s x ≡ true) × (has w x ≡ false)
+missing s w hs hw p =
+    let v : ℕ = bitAnd s ((2 ^ 64 - 1) - w) in
+    let x : ℕ = trailingZeros 64 v in
+    let r = trailing-least 64 v p (omega (arith, and-le-l s ((2 ^ 64 - 1) - w))) in
+    let b : has s x && not (has w x) ≡ true = sym (has-diff 64 s w x hw (r .below)) ∙ r .member in
+    (x, and-l (has s x) (not (has w x)) b, not-true (has w x) (and-r (has s x) (not (has w x)) b))
+
+covered : (s w : ℕ) → s < 2 ^ 64 → w < 2 ^ 64 → bitAnd s ((2 ^ 64 - 1) - w) ≡ 0 → (x : ℕ) → has s x ≡ true → has w x ≡ true
+covered s w hs hw e x i =
+    let low : 64 ≤ x → ⊥ = λ l. not-both i (has-above 64 s x hs l) in
+    within-of-diff 64 s w hw e x (omega arith) i
+
+module _ (fits : List ℕ) (p s some : ℕ) (hs : s < 2 ^ 64) (hw : some < 2 ^ 64) where
+  pub settled-unmarked : (spare : ℕ) → 0 < bitAnd s ((2 ^ 64 - 1) - some) → Settled fits p s some false spare
+  settled-unmarked spare h = record { yes = λ e. absurd (false≢true e); no = λ e. inl (missing s some hs hw h) }
+
+  pub settled-assigned : (complete : Bool) (spare : ℕ) → bitAnd s ((2 ^ 64 - 1) - some) ≡ 0 → Exact fits p s complete spare
+      → Settled fits p s some complete spare
+  settled-assigned complete spare z E =
+      record {
+        yes = λ e. (covered s some hs hw z, subst (λ (b : Bool). Exact fits p s b spare) e E);
+        no = λ e. inr (subst (λ (b : Bool). Exact fits p s b spare) e E);
+      }
+
+pub settled-at : {fits : List ℕ} {p q s some : ℕ} {complete : Bool} {spare : ℕ} → Settled fits p s some complete spare → p ≡ q
+    → Settled fits q s some complete spare
+settled-at {fits} {p} {q} {s} {some} {complete} {spare} S e = subst (λ (n : ℕ). Settled fits n s some complete spare) e S

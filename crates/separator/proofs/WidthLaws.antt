@@ -1,0 +1,116 @@
+-- Sets of the n stations inside words of 64 bits: what the code's operations are among the n stations. Assumes nothing.
+use mathlib.Core.Path.{_≡_, refl, sym, ap, _∙_, subst}
+use mathlib.Core.Logic.{⊎-elim}
+use mathlib.Core.Bool.{Bool, true, false, not, _&&_, _||_}
+use mathlib.Core.List.{List}
+use Prim.Native.Nat.{ℕ, _+_, _-_, _^_, _≤_, _<_}
+use native.Mathlib.Nat.{lt-of-lt-of-le}
+use native.Mathlib.Omega.{arith}
+use lib.Bits.{bitAnd, bitOr, and-le-l, or-lt}
+use lib.Count.{ones}
+use lib.Dec.{ltb}
+use lib.Pow.{pow-mono, ones-lt}
+use borrow.Author.Tests.{lt-ltb}
+use Rattle.bitset.specs.Sets.{has, any, setOf, minus}
+use Rattle.bitset.proofs.BoolLaws.{iff, not-both, and-intro, and-l, and-r, taut2}
+use Rattle.bitset.proofs.QuantLaws.{below?, any-intro, any-elim}
+use Rattle.bitset.proofs.HasLaws.{has-and, has-or, has-above, ext}
+use Rattle.bitset.proofs.SetLaws.{setOf-lt, has-setOf, setOf-elim, eq-setOf, has-diff, none-zero}
+use Rattle.bitset.proofs.OnesLaws.{ones-disjoint}
+use Rattle.bitset.proofs.MachineLaws.{full-setOf}
+use Rattle.circuit.specs.Legs.{row, leg, col, neighbours}
+use Rattle.separator.specs.Levels.{neighbourhood}
+use Rattle.separator.specs.Linked.{Linked}
+
+pub wide : {n w : ℕ} → n ≤ 64 → w < 2 ^ n → w < 2 ^ 64
+wide l h = lt-of-lt-of-le h (pow-mono l)
+
+pub member-below : (n w k : ℕ) → w < 2 ^ n → has w k ≡ true → k < n
+member-below n w k h e = ⊎-elim (λ l. l) (λ l. absurd (not-both e (has-above n w k h l))) (below? k n)
+
+-- `v & !w`
+pub minus-of : {n : ℕ} (v w : ℕ) → n ≤ 64 → v < 2 ^ n → w < 2 ^ 64 → bitAnd v ((2 ^ 64 - 1) - w) ≡ minus n v w
+unfolding minus
+minus-of {n} v w l hv hw =
+    eq-setOf n (bitAnd v ((2 ^ 64 - 1) - w)) _ (omega (arith, and-le-l v ((2 ^ 64 - 1) - w))) (λ k d. has-diff 64 v w k hw (omega arith))
+
+-- `full(n) & !s`: the stations outside s
+pub outside-of : (n full s : ℕ) → n ≤ 64 → full ≡ setOf 64 (λ j. ltb j n) → s < 2 ^ 64 → bitAnd full ((2 ^ 64 - 1) - s) ≡ setOf n (λ k. not (has s k))
+outside-of n full s top e h =
+    eq-setOf n (bitAnd full ((2 ^ 64 - 1) - s)) (λ k. not (has s k)) (omega (arith, and-le-l full ((2 ^ 64 - 1) - s), size))
+    (λ k l. has-diff 64 full s k h (omega arith)
+    ∙ ap (λ (b : Bool). b && not (has s k)) (ap (λ (w : ℕ). has w k) e ∙ has-setOf 64 (λ j. ltb j n) k (omega arith) ∙ lt-ltb k n l))
+  where
+    size : full < 2 ^ n
+    size = subst (λ (w : ℕ). w < 2 ^ n) (full-setOf 64 n top ∙ sym e) (ones-lt n)
+
+-- `a | (x & !a)` has the members of both
+pub ones-join : (a x : ℕ) → a < 2 ^ 64 → ones (bitOr a (bitAnd x ((2 ^ 64 - 1) - a))) ≡ ones a + ones (bitAnd x ((2 ^ 64 - 1) - a))
+ones-join a x ha =
+    let y : ℕ = bitAnd x ((2 ^ 64 - 1) - a) in
+    ones-disjoint a y
+    (none-zero 64 (bitAnd a y) (omega (arith, and-le-l a y))
+    (λ k l. has-and a y k ∙ ap (λ (b : Bool). has a k && b) (has-diff 64 x a k ha l)
+    ∙ taut2 (λ p q. p && (q && not p)) (λ p q. false) refl (has a k) (has x k)))
+
+-- ---- neighbours
+
+-- `rows[i] | cols[i]`
+pub neighbours-of : (n i : ℕ) (t : List ℕ) → row t i < 2 ^ n → bitOr (row t i) (col n t i) ≡ setOf n (neighbours t i)
+unfolding neighbours leg col
+neighbours-of n i t h =
+    let c : ℕ = setOf n (λ j. has (row t j) i) in
+    eq-setOf n (bitOr (row t i) c) (λ j. has (row t i) j || has (row t j) i) (or-lt n (row t i) c h (setOf-lt n (λ j. has (row t j) i)))
+    (λ j l. has-or (row t i) c j ∙ ap (λ (b : Bool). has (row t i) j || b) (has-setOf n (λ j. has (row t j) i) j l))
+
+-- some station of w leads to j by the relation R
+abbrev pub leads : ℕ → (ℕ → ℕ → Bool) → ℕ → ℕ → Bool
+leads n R w j = any n (λ i. has w i && R i j)
+
+-- some word of a member of w has k
+abbrev pub hit : List ℕ → ℕ → ℕ → Bool
+hit nbr w k = any 64 (λ i. has w i && has (row nbr i) k)
+
+-- the union of the words of the members of w
+pub neighbourhood-of : {n : ℕ} {t nbr : List ℕ} (w out : ℕ) → Linked n t nbr → w < 2 ^ n → out < 2 ^ 64
+    → ((k : ℕ) → k < 64 → has out k ≡ hit nbr w k) → out ≡ neighbourhood n t w
+unfolding neighbourhood
+neighbourhood-of {n} {t} {nbr} w out d hw ho bits =
+    ext 64 out (setOf n joined) ho (wide (d .most) (setOf-lt n joined))
+    (λ k l. bits k l ∙ iff (hit nbr w k) (has (setOf n joined) k) (there k) (back k))
+  where
+    joined : ℕ → Bool
+    joined = leads n (neighbours t) w
+
+    there : (k : ℕ) → hit nbr w k ≡ true → has (setOf n joined) k ≡ true
+    there k e =
+        let (i, li, ei) = any-elim 64 (λ i. has w i && has (row nbr i) k) e in
+        let hi = and-l (has w i) (has (row nbr i) k) ei in
+        let low = member-below n w i hw hi in
+        let m = setOf-elim n (neighbours t i) k (ap (λ (x : ℕ). has x k) (sym (d .words i low)) ∙ and-r (has w i) (has (row nbr i) k) ei) in
+        has-setOf n joined k (m .0) ∙ any-intro n (λ j. has w j && neighbours t j k) i low (and-intro hi (m .1))
+
+    back : (k : ℕ) → has (setOf n joined) k ≡ true → hit nbr w k ≡ true
+    back k e =
+        let m = setOf-elim n joined k e in
+        let (i, li, ei) = any-elim n (λ i. has w i && neighbours t i k) (m .1) in
+        any-intro 64 (λ j. has w j && has (row nbr j) k) i (lt-of-lt-of-le li (d .most))
+        (and-intro (and-l (has w i) (neighbours t i k) ei)
+        (ap (λ (x : ℕ). has x k) (d .words i li) ∙ has-setOf n (neighbours t i) k (m .0) ∙ and-r (has w i) (neighbours t i k) ei))
+
+pub neighbourhood-lt : (n : ℕ) (t : List ℕ) (w : ℕ) → neighbourhood n t w < 2 ^ n
+unfolding neighbourhood
+neighbourhood-lt n t w = setOf-lt n (leads n (neighbours t) w)
+
+-- `near & room & !seen`: the neighbours of w inside the room that are not seen
+module _ (n : ℕ) (t : List ℕ) (w room seen : ℕ) {near : ℕ} (e : near ≡ neighbourhood n t w) where
+  pub fresh-lt : bitAnd (bitAnd near room) ((2 ^ 64 - 1) - seen) < 2 ^ n
+  fresh-lt = omega (arith, and-le-l (bitAnd near room) ((2 ^ 64 - 1) - seen), and-le-l near room, neighbourhood-lt n t w)
+
+  pub fresh-has : n ≤ 64 → seen < 2 ^ 64 → (k : ℕ) → k < n
+      → has (bitAnd (bitAnd near room) ((2 ^ 64 - 1) - seen)) k ≡ leads n (neighbours t) w k && has room k && not (has seen k)
+  unfolding neighbourhood
+  fresh-has top h k l =
+      has-diff 64 (bitAnd near room) seen k h (omega arith)
+      ∙ ap (λ (b : Bool). b && not (has seen k))
+      (has-and near room k ∙ ap (λ (b : Bool). b && has room k) (ap (λ (x : ℕ). has x k) e ∙ has-setOf n (leads n (neighbours t) w) k l))

@@ -1,0 +1,86 @@
+-- `level::marks` meets its contract. The invariant: the words of the components below c, and the ends of the bare marks and theirs. Assumes nothing.
+use native.Mathlib.Omega.{arith}
+use mathlib.Core.Path.{_≡_}
+use Prim.Native.Nat.{_-_, _≤_}
+use Rattle.separator.specs.Level.{stands}
+use Rattle.separator.specs.Spares.{markAt, Side}
+use Rattle.separator.proofs.SideLaws.{side-start, side-at, side-more}
+use Rattle.separator.proofs.level.marks.Statement.{statement}
+use Rattle.separator.proofs.level.marks.Tie as tie
+
+abbrev Inv-loop : tie.InvT-loop
+Inv-loop rows s parts p out₀ into₀ tails₀ heads₀ c₀ out into tails heads c =
+    (c ≤ p) × Side (λ x y m. markAt rows s parts x y m) c out tails × Side (λ x y m. markAt rows s parts y x m) c into heads
+
+abbrev μ-loop : tie.MeasureT-loop
+μ-loop rows s parts p out₀ into₀ tails₀ heads₀ c₀ out into tails heads c = p - c
+
+ends-bare-requires : tie.Need-ends-bare-requires Inv-loop μ-loop
+ends-bare-requires c κs = tt
+
+loop-holds : tie.Need-loop-holds Inv-loop μ-loop
+loop-holds c =
+    (omega arith, side-start _ _ _ (c .before .pre .1) (unfold markAt in unfold stands in (c .ends-bare .ensures .tail)), side-start _ _ _ (c .before .pre .2) (unfold markAt in unfold stands in (c .ends-bare .ensures .head)))
+
+mul-ends-through : tie.Need-mul-ends-through Inv-loop μ-loop
+mul-ends-through c = omega arith
+
+element-copy-out-ends-through : tie.Need-element-copy-out-ends-through Inv-loop μ-loop
+element-copy-out-ends-through c = omega arith
+
+ends-through-requires : tie.Need-ends-through-requires Inv-loop μ-loop
+ends-through-requires c κs = tt
+
+mul-out : tie.Need-mul-out Inv-loop μ-loop
+mul-out c = omega arith
+
+element-write-out : tie.Need-element-write-out Inv-loop μ-loop
+element-write-out c = omega arith
+
+mul-into : tie.Need-mul-into Inv-loop μ-loop
+mul-into c = omega arith
+
+element-write-into : tie.Need-element-write-into Inv-loop μ-loop
+element-write-into c = omega arith
+
+add-c : tie.Need-add-c Inv-loop μ-loop
+add-c c = omega arith
+
+loop-less : tie.Need-loop-less Inv-loop μ-loop
+loop-less c = omega arith
+
+loop-again : tie.Need-loop-again Inv-loop μ-loop
+loop-again c =
+    let v = c .before .before .before .before .before .loop in
+    let e = c .before .before .ends-through in (
+      omega arith,
+      side-more _ (v .c) (v .out) (v .tails) _ _ (v .inv .1) (omega arith) (unfold markAt in unfold stands in (e .ensures .tail)) (omega arith),
+      side-more _ (v .c) (v .into) (v .heads) _ _ (v .inv .2) (omega arith) (unfold markAt in unfold stands in (e .ensures .head)) (omega arith),
+    )
+
+returns : tie.Need-returns Inv-loop μ-loop
+returns c =
+    let v = c .before .loop in
+    let a = c .before .before .before .args in
+    let e : v .c ≡ a .p = omega (arith, v .inv .0) in
+    (side-at (v .inv .1) e, side-at (v .inv .2) e)
+
+pub marks-spec : {M : Type 1} → statement M
+marks-spec =
+    tie.close
+    (tie.spec
+    Inv-loop
+    μ-loop
+    ends-bare-requires
+    loop-holds
+    mul-ends-through
+    element-copy-out-ends-through
+    ends-through-requires
+    mul-out
+    element-write-out
+    mul-into
+    element-write-into
+    add-c
+    loop-less
+    loop-again
+    returns)

@@ -1,0 +1,92 @@
+-- `separator::reach::neighbours` meets its contract. The invariant: the words of the stations below i are filled in. Assumes nothing.
+use borrow.Author.Needs.{needs}
+use denote.Ref.{now}
+use mathlib.Core.Path.{_≡_, ap, _∙_}
+use mathlib.Core.List.{List}
+use Prim.Native.Nat.{ℕ, _-_, _≤_, _<_}
+use native.Mathlib.Omega.{arith}
+use lib.Bits.{bitOr}
+use lib.ListN.{getD, length-replicate}
+use Rattle.bitset.specs.Sets.{setOf}
+use Rattle.bitset.proofs.UptoLaws.{Filled, filled-none, filled-more, getD-upto}
+use Rattle.circuit.specs.Legs.{row, col, neighbours}
+use Rattle.separator.proofs.WidthLaws.{neighbours-of}
+use Rattle.separator.proofs.ArrayLaws.{filled-at}
+use Rattle.separator.proofs.reach.neighbours.Statement.{statement}
+use Rattle.separator.proofs.reach.neighbours.Tie as tie
+
+-- the neighbours of station i of n
+abbrev word : ℕ → List ℕ → ℕ → ℕ
+word n t i = setOf n (neighbours t i)
+
+abbrev Inv-loop : tie.InvT-loop
+Inv-loop rows cols n out₀ i₀ out i = (i ≤ n) × Filled 64 (word n rows) i out
+
+abbrev μ-loop : tie.MeasureT-loop
+μ-loop rows cols n out₀ i₀ out i = n - i
+
+loop-holds : tie.Need-loop-holds Inv-loop μ-loop
+loop-holds c = (omega arith, filled-none 64 _ _ (length-replicate {A = ℕ} 64 0))
+
+mul-out : tie.Need-mul-out Inv-loop μ-loop
+mul-out c = search needs
+
+element-copy-out-out : tie.Need-element-copy-out-out Inv-loop μ-loop
+element-copy-out-out c = search needs
+
+mul-out-2 : tie.Need-mul-out-2 Inv-loop μ-loop
+mul-out-2 c = search needs
+
+element-copy-out-out-2 : tie.Need-element-copy-out-out-2 Inv-loop μ-loop
+element-copy-out-out-2 c = search needs
+
+mul-out-3 : tie.Need-mul-out-3 Inv-loop μ-loop
+mul-out-3 c = search needs
+
+array-write-out : tie.Need-array-write-out Inv-loop μ-loop
+array-write-out c = search needs
+
+add-i : tie.Need-add-i Inv-loop μ-loop
+add-i c = search needs
+
+loop-less : tie.Need-loop-less Inv-loop μ-loop
+loop-less c = omega arith
+
+loop-again : tie.Need-loop-again Inv-loop μ-loop
+unfolding row
+loop-again c =
+    let l = c .before .before .before .loop in
+    let a = c .before .before .before .before .args in
+    let p = c .before .before .before .before .pre in
+    let rows : List ℕ = now (a .rows) in
+    let low : l .i < 64 = omega arith in
+    let column : getD (now (a .cols)) (l .i) 0 ≡ col (a .n) rows (l .i) =
+    ap (λ (x : List ℕ). getD x (l .i) 0) (p .2) ∙ getD-upto 64 (col (a .n) rows) 0 (l .i) low
+    in (
+      omega arith,
+      filled-more _ (l .inv .1) low (ap (λ (x : ℕ). bitOr (getD rows (l .i) 0) x) column ∙ neighbours-of (a .n) (l .i) rows (p .1 (l .i) (omega arith))),
+    )
+
+returns : tie.Need-returns Inv-loop μ-loop
+unfolding row
+returns c =
+    let l = c .before .loop in
+    record { most = c .before .before .pre .0; words = λ i d. filled-at 0 (l .inv .1) i (omega arith) }
+
+pub neighbours-spec : {M : Type 1} → statement M
+neighbours-spec =
+    tie.close
+    (tie.spec
+    Inv-loop
+    μ-loop
+    loop-holds
+    mul-out
+    element-copy-out-out
+    mul-out-2
+    element-copy-out-out-2
+    mul-out-3
+    array-write-out
+    add-i
+    loop-less
+    loop-again
+    returns)

@@ -1,0 +1,74 @@
+-- What the functions of one level promise: the rule of `specs/Level` on words. The code does not know n, so it reads a table as one of 64 stations.
+use mathlib.Core.Path.{_≡_}
+use mathlib.Core.Logic.{_⊎_}
+use mathlib.Core.Bool.{Bool, true, false, not, cond, _&&_}
+use mathlib.Core.List.{List, [], _∷_}
+use Prim.Native.Nat.{ℕ, suc, _<_}
+use lib.Dec.{eqb}
+use lib.ListN.{getD, length}
+use Rattle.bitset.specs.Sets.{has, any, setOf, meet}
+use Rattle.circuit.specs.Legs.{leg, col}
+use Rattle.matching.specs.Matching.{Exact}
+use Rattle.separator.specs.declared.level.Spares.{Spares}
+use Rattle.separator.specs.Level.{stands, marking, passable, struck}
+
+-- ---- marks
+
+-- i and j are two stations of s
+unfoldable pub pair : ℕ → ℕ → ℕ → Bool
+pair s i j = has s i && has s j && not (eqb i j)
+
+-- the mark m stands on the pair (i, j) of the level s with the components cs
+unfoldable pub markAt : List ℕ → ℕ → List ℕ → ℕ → ℕ → ℕ → Bool
+markAt t s cs i j m = pair s i j && stands 64 t cs i j m
+
+-- the mark of the component w stands on the pair (i, j)
+abbrev pub through : List ℕ → ℕ → ℕ → ℕ → ℕ → Bool
+through t s w i j = markAt t s (w ∷ []) i j 1
+
+-- the leg i→j stands on the pair (i, j)
+abbrev pub bare : List ℕ → ℕ → ℕ → ℕ → Bool
+bare t s i j = markAt t s [] i j 0
+
+-- the stations of s that have a leg from the component w
+unfoldable pub entered : List ℕ → ℕ → ℕ → ℕ
+entered t s w = setOf 64 (λ j. has s j && meet 64 (col 64 t j) w)
+
+-- `tails` has the first and `heads` the second stations of the pairs on which a mark stands
+pub record EndsOf (on : ℕ → ℕ → Bool) (tails heads : ℕ) : Type 0 where
+  pub tail : tails ≡ setOf 64 (λ i. any 64 (λ j. on i j))
+  pub head : heads ≡ setOf 64 (λ j. any 64 (λ i. on i j))
+
+-- ---- choices
+
+-- One side, out or in: x may take its pair with y by the mark m.
+-- `fits` has for each of the p components the stations that can take it, and `some` has the stations with a mark.
+pub record Side (may : ℕ → ℕ → ℕ → Bool) (p : ℕ) (fits : List ℕ) (some : ℕ) : Type 0 where
+  pub size : length fits ≡ 64
+  pub component : (c : ℕ) → c < p → getD fits c 0 ≡ setOf 64 (λ x. any 64 (λ y. may x y (suc c)))
+  pub any-mark : some ≡ setOf 64 (λ x. any (suc p) (λ m. any 64 (λ y. may x y m)))
+
+-- every station of s has a mark and the components can be assigned, and `spare` has the stations that can be left out; or one of the two fails
+pub record Settled (fits : List ℕ) (p s some : ℕ) (complete : Bool) (spare : ℕ) : Type 0 where
+  pub yes : complete ≡ true → ((x : ℕ) → has s x ≡ true → has some x ≡ true) × Exact fits p s true spare
+  pub no : complete ≡ false → ((x : ℕ) × (has s x ≡ true) × (has some x ≡ false)) ⊎ Exact fits p s false spare
+
+-- ---- the cut
+
+-- the cut takes j out of the word of i: both are stations of s, and i is not in `out` or j not in `into`
+abbrev pub cuts : ℕ → ℕ → ℕ → ℕ → ℕ → Bool
+cuts s out into i j = has s i && has s j && not (has out i && has into j)
+
+-- the word w of i, cut
+unfoldable pub cutRow : ℕ → ℕ → ℕ → ℕ → ℕ → ℕ
+cutRow s out into i w = cond (has s i) (setOf 64 (λ j. has w j && not (cuts s out into i j))) w
+
+-- each of the 64 words is cut
+pub record Cut (s out into : ℕ) (before after : List ℕ) : Type 0 where
+  pub size : length after ≡ 64
+  pub word : (k : ℕ) → k < 64 → getD after k 0 ≡ cutRow s out into k (getD before k 0)
+
+-- what `spare_stations` says of the level s: whether it gives none, and otherwise that the rule strikes the legs that the cut takes out
+pub record SparesOf (n : ℕ) (t : List ℕ) (s : ℕ) (r : Spares) : Type 0 where
+  pub verdict : r .none ≡ not (passable n s (marking n t s))
+  pub strikes : r .none ≡ false → (i j : ℕ) → i < n → j < n → leg t i j ≡ true → struck n s (marking n t s) i j ≡ cuts s (r .out) (r .into) i j
