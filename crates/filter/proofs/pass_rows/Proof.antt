@@ -1,12 +1,56 @@
+-- `filter::pass_rows` meets its contract.
 use borrow.Author.Needs.{needs}
+use mathlib.Core.Path.{_≡_}
+use Prim.Native.Nat.{ℕ}
+use lib.ListN.{length}
+use Rattle.circuit.proofs.StateLaws.{stray-row}
+use Rattle.separator.proofs.InnerLaws.{level-below}
+use Rattle.filter.proofs.TakeLaws.{pass-is}
 use Rattle.filter.proofs.pass_rows.Statement.{statement}
 use Rattle.filter.proofs.pass_rows.Tie as tie
-use Rattle.filter.proofs.pass_rows.Reads as reads
-use Rattle.filter.proofs.pass_rows.Lts as lts
 
--- src/lib.rt:128:1
+columns-requires : tie.Need-columns-requires
+columns-requires c κs = search needs
+
+neighbours-requires : tie.Need-neighbours-requires
+neighbours-requires c κs =
+    let s = c .before .before .before .before in
+    (s .pre .0, stray-row (s .args .n) (s .args .t1) (s .pre .0) (s .pre .1), c .before .before .columns .ensures)
+
+levels-from-requires : tie.Need-levels-from-requires
+levels-from-requires c κs = search needs
+
+take-levels-requires : tie.Need-take-levels-requires
+take-levels-requires c κs =
+    let found = c .before .before .before .before in
+    let nbr = found .before .before in
+    let cols = nbr .before .before .before in
+    let s = cols .before .before in
+    let n = s .args .n in
+    let of = found .levels-from .ensures .1 n (s .args .t1) (nbr .neighbours .ensures) (s .pre .2) in
+    let long : length (found .levels-from .result .level) ≡ 64 = (let ok = found .levels-from .ok in search needs) in
+    let len : length (s .args .t1) ≡ 64 = search needs in (
+      s .pre .0,
+      found .levels-from .ensures .0,
+      long,
+      level-below n (s .args .t1) (s .args .seed) _ _ (of .1) (s .pre .2),
+      record { clean = s .pre .1; len = len; columns = cols .columns .ensures },
+    )
+
 returns : tie.Need-returns
-returns c = ?
+returns c =
+    let found = c .before .before .before .before .before in
+    let nbr = found .before .before in
+    let s = nbr .before .before .before .before .before in
+    let of = found .levels-from .ensures .1 (s .args .n) (s .args .t1) (nbr .neighbours .ensures) (s .pre .2) in
+    pass-is (s .args .n) (s .args .limit) (s .args .seed) (found .levels-from .result .count) (found .levels-from .result .level) (s .args .t1) _ _ (of .1) (c .take-levels .ensures)
 
 pub pass-rows-spec : {M : Type 1} → statement M
-pass-rows-spec = tie.close (tie.spec returns)
+pass-rows-spec =
+    tie.close
+    (tie.spec
+    columns-requires
+    neighbours-requires
+    levels-from-requires
+    take-levels-requires
+    returns)

@@ -1,0 +1,85 @@
+-- The levels of a pass, as the code takes them. Assumes nothing.
+use mathlib.Core.Path.{_≡_, sym, ap, ap₂, _∙_, subst}
+use mathlib.Core.Logic.{⊎-elim}
+use mathlib.Core.Bool.{Bool, true, false, cond}
+use mathlib.Core.List.{List, [], _∷_}
+use Prim.Native.Nat.{ℕ, _+_, _^_, _≤_, _<_}
+use lib.Count.{ones}
+use lib.Dec.{leb}
+use lib.ListN.{length, getD, take}
+use borrow.Author.Tests.{le-leb, lt-leb}
+use Rattle.bitset.specs.Sets.{size}
+use Rattle.bitset.proofs.BoolLaws.{cases, cond-true, cond-false}
+use Rattle.bitset.proofs.OnesLaws.{size-ones}
+use Rattle.circuit.specs.declared.Verdict.{Verdict}
+use Rattle.circuit.specs.State.{stray}
+use Rattle.circuit.specs.Verdict.{saysNone, leaves}
+use Rattle.separator.specs.Levels.{levels, inner}
+use Rattle.separator.specs.Level.{level}
+use Rattle.separator.specs.Strike.{LevelOf}
+use Rattle.separator.proofs.ExactLaws.{level-clean}
+use Rattle.separator.proofs.InnerLaws.{innerFrom, inner-start, inner-step, inner-end}
+use Rattle.filter.specs.Pass.{passOver, pass}
+use Rattle.filter.specs.Inner.{Columned, limited, LevelTaken}
+
+-- ---- one level
+
+module _ (n limit s : ℕ) (t cols : List ℕ) (fits : s < 2 ^ n) (C : Columned n t cols) where
+  pub level-skipped : limit < ones s → LevelTaken n limit s t false t cols
+  level-skipped l = record { verdict = cond-false (level n t s) (leaves t) (ap (λ (k : ℕ). leb k limit) (size-ones n s fits) ∙ lt-leb (ones s) limit l); table = C }
+
+  pub level-taken : n ≤ 64 → ones s ≤ limit → (none : Bool) (rows after : List ℕ) → LevelOf n s t none rows after → LevelTaken n limit s t none rows after
+  level-taken most l none rows after L =
+      record {
+        verdict = cond-true (level n t s) (leaves t) (ap (λ (k : ℕ). leb k limit) (size-ones n s fits) ∙ le-leb (ones s) limit l) ∙ L .verdict;
+        table = record { clean = ap (λ (v : Verdict). stray n (v .left)) (sym (L .verdict)) ∙ level-clean n t s most (C .clean); len = L .len; columns = L .columns };
+      }
+
+-- ---- the levels one after the other
+
+pass-cons : (s : ℕ) (ss : List ℕ) (n limit : ℕ) (t : List ℕ) → passOver (s ∷ ss) n limit t ≡ cond (limited n limit s t .none) (limited n limit s t) (passOver ss n limit (limited n limit s t .left))
+unfolding passOver
+pass-cons s ss n limit t = ⊎-elim within over (cases (leb (size n s) limit))
+  where
+    rule : Verdict → Verdict
+    rule v = cond (v .none) v (passOver ss n limit (v .left))
+
+    within : leb (size n s) limit ≡ true → passOver (s ∷ ss) n limit t ≡ rule (limited n limit s t)
+    within e = cond-true (rule (level n t s)) (passOver ss n limit t) e ∙ ap rule (sym (cond-true (level n t s) (leaves t) e))
+
+    over : leb (size n s) limit ≡ false → passOver (s ∷ ss) n limit t ≡ rule (limited n limit s t)
+    over e = cond-false (rule (level n t s)) (passOver ss n limit t) e ∙ ap rule (sym (cond-false (level n t s) (leaves t) e))
+
+-- what is left of the pass at level k is the whole
+pub record Passing (n limit count : ℕ) (level t : List ℕ) (k : ℕ) (rows cols : List ℕ) : Type 0 where
+  pub table : Columned n rows cols
+  pub rest : passOver (innerFrom k count level) n limit rows ≡ passOver (inner (take count level)) n limit t
+
+module _ (n limit count : ℕ) (level t : List ℕ) (most : count ≤ length level) where
+  pub passing-start : (cols : List ℕ) → Columned n t cols → Passing n limit count level t 1 t cols
+  passing-start cols C = record { table = C; rest = ap (λ (l : List ℕ). passOver l n limit t) (sym (inner-start count level most)) }
+
+  module _ (k : ℕ) (rows cols : List ℕ) (P : Passing n limit count level t k rows cols) (none : Bool) (rows′ cols′ : List ℕ) where
+    next : k + 1 < count → LevelTaken n limit (getD level k 0) rows none rows′ cols′
+        → passOver (inner (take count level)) n limit t ≡ cond none (record { none = none; left = rows′ }) (passOver (innerFrom (k + 1) count level) n limit rows′)
+    next l T =
+        sym (P .rest) ∙ ap (λ (x : List ℕ). passOver x n limit rows) (inner-step k count level l most) ∙ pass-cons (getD level k 0) (innerFrom (k + 1) count level) n limit rows
+        ∙ ap (λ (v : Verdict). cond (v .none) v (passOver (innerFrom (k + 1) count level) n limit (v .left))) (T .verdict)
+
+    -- the verdict none stops the pass
+    pub passing-none : k + 1 < count → LevelTaken n limit (getD level k 0) rows none rows′ cols′ → none ≡ true → passOver (inner (take count level)) n limit t ≡ record { none = true; left = rows′ }
+    passing-none l T e = next l T ∙ cond-true _ _ e ∙ ap (λ (b : Bool). record { none = b; left = rows′ }) e
+
+    pub passing-turn : k + 1 < count → LevelTaken n limit (getD level k 0) rows none rows′ cols′ → none ≡ false → Passing n limit count level t (k + 1) rows′ cols′
+    passing-turn l T e = record { table = T .table; rest = sym (next l T ∙ cond-false _ _ e) }
+
+  pub passing-end : (k : ℕ) (rows cols : List ℕ) → Passing n limit count level t k rows cols → count ≤ k + 1 → passOver (inner (take count level)) n limit t ≡ record { none = false; left = rows }
+  unfolding passOver
+  passing-end k rows cols P l = sym (P .rest) ∙ ap (λ (x : List ℕ). passOver x n limit rows) (inner-end k count level l)
+
+-- ---- the pass
+
+pub pass-is : (n limit seed count : ℕ) (level t left : List ℕ) (none : Bool) → take count level ≡ levels n t seed
+    → passOver (inner (take count level)) n limit t ≡ record { none = none; left = left } → record { none = none; left = left } ≡ pass n t limit seed
+unfolding pass
+pass-is n limit seed count level t left none e p = sym p ∙ ap (λ (l : List ℕ). passOver (inner l) n limit t) e
