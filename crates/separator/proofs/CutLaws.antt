@@ -15,8 +15,8 @@ use lib.Seq.{ext-getD, getD-set-same, getD-set-other}
 use borrow.Author.Tests.{eqb-true, eqb-false, not-true}
 use Rattle.bitset.specs.Sets.{has, setOf}
 use Rattle.bitset.specs.Upto.{upto}
-use Rattle.bitset.proofs.BoolLaws.{iff, cases, clash, and-intro, and-l, and-r, cond-true, cond-false, cond-elim, taut2, taut3}
-use Rattle.bitset.proofs.HasLaws.{has-zero, has-above, has-and, has-or, has-not, ext}
+use Rattle.bitset.proofs.BoolLaws.{iff, cases, and-intro, and-l, and-r, cond-true, cond-false, cond-elim, taut2, taut3}
+use Rattle.bitset.proofs.HasLaws.{has-zero, has-and, has-or, has-not, ext}
 use Rattle.bitset.proofs.SetLaws.{has-setOf, setOf-lt, setOf-above, eq-setOf, has-diff}
 use Rattle.bitset.proofs.QuantLaws.{below?}
 use Rattle.bitset.proofs.LeastLaws.{trailing-least, has-clear}
@@ -24,22 +24,25 @@ use Rattle.bitset.proofs.UptoLaws.{getD-upto, length-upto, upto-of}
 use Rattle.circuit.specs.Legs.{row, leg, col, tableOf, without}
 use Rattle.circuit.specs.State.{stray}
 use Rattle.circuit.proofs.LegsLaws.{row-in, row-out, tableOf-leg, without-stays}
-use Rattle.circuit.proofs.StateLaws.{stray-row, stray-beyond}
 use Rattle.separator.specs.Spares.{cuts, cutRow, Cut}
+use Rattle.separator.proofs.CleanLaws.{row-fits, leg-low}
 
 -- ---- one word
 
-pub cut-some : (w s out into i : ℕ) → w < 2 ^ 64 → s < 2 ^ 64 → has s i ≡ true → has out i ≡ true → bitAnd w (bitOr ((2 ^ 64 - 1) - s) into) ≡ cutRow s out into i w
+pub cut-some : (w s out into i : ℕ) → w < 2 ^ 64 → s < 2 ^ 64 → has s i ≡ true → has out i ≡ true
+    → bitAnd w (bitOr ((2 ^ 64 - 1) - s) into) ≡ cutRow s out into i w
 unfolding cutRow
 cut-some w s out into i hw hs e f =
     let v : ℕ = bitOr ((2 ^ 64 - 1) - s) into in
     eq-setOf 64 (bitAnd w v) (λ j. has w j && not (cuts s out into i j)) (omega (arith, and-le-l w v))
-    (λ j l. has-and w v j ∙ ap (λ (x : Bool). has w j && x) (has-or ((2 ^ 64 - 1) - s) into j ∙ ap (λ (x : Bool). x || has into j) (has-not 64 s j hs l))
+    (λ j l. has-and w v j
+    ∙ ap (λ (x : Bool). has w j && x) (has-or ((2 ^ 64 - 1) - s) into j ∙ ap (λ (x : Bool). x || has into j) (has-not 64 s j hs l))
     ∙ taut3 (λ a b c. a && (not b || c)) (λ a b c. a && not (b && not c)) refl (has w j) (has s j) (has into j)
     ∙ ap₂ (λ (x y : Bool). has w j && not (x && has s j && not (y && has into j))) (sym e) (sym f))
     ∙ sym (cond-true _ w e)
 
-pub cut-all : (w s out into i : ℕ) → w < 2 ^ 64 → s < 2 ^ 64 → has s i ≡ true → has out i ≡ false → bitAnd w ((2 ^ 64 - 1) - s) ≡ cutRow s out into i w
+pub cut-all : (w s out into i : ℕ) → w < 2 ^ 64 → s < 2 ^ 64 → has s i ≡ true → has out i ≡ false
+    → bitAnd w ((2 ^ 64 - 1) - s) ≡ cutRow s out into i w
 unfolding cutRow
 cut-all w s out into i hw hs e f =
     let v : ℕ = (2 ^ 64 - 1) - s in
@@ -59,7 +62,8 @@ cut-has s out into i w j l =
 cut-lt : (s out into i w : ℕ) → w < 2 ^ 64 → cutRow s out into i w < 2 ^ 64
 unfolding cutRow
 cut-lt s out into i w h =
-    cond-elim (λ v. v < 2 ^ 64) (has s i) (setOf 64 (λ j. has w j && not (cuts s out into i j))) w (λ e. setOf-lt 64 (λ j. has w j && not (cuts s out into i j))) (λ e. h)
+    let left : ℕ → Bool = λ j. has w j && not (cuts s out into i j) in
+    cond-elim (λ v. v < 2 ^ 64) (has s i) (setOf 64 left) w (λ e. setOf-lt 64 left) (λ e. h)
 
 -- ---- the walk over the stations of s, the least first
 
@@ -81,7 +85,9 @@ module _ (s out into : ℕ) (before : List ℕ) where
         rest-fits = h;
         within = λ k e. e;
         size = len;
-        word = λ k l. cond-elim (λ w. getD before k 0 ≡ w) (has s k) (getD before k 0) (cutRow s out into k (getD before k 0)) (λ e. refl) (λ e. sym (cond-false _ (getD before k 0) e));
+        word = λ k l.
+            let w : ℕ = getD before k 0 in
+            cond-elim (λ v. w ≡ v) (has s k) w (cutRow s out into k w) (λ e. refl) (λ e. sym (cond-false _ w e));
       }
 
   pub cutting-turn : {rest : ℕ} {now : List ℕ} (w : ℕ) → Cutting s out into before rest now → 0 < rest
@@ -116,7 +122,8 @@ module _ (s out into : ℕ) (before : List ℕ) where
 
   pub cutting-end : {rest : ℕ} {now : List ℕ} → Cutting s out into before rest now → rest ≡ 0 → Cut s out into before now
   unfolding wordOf
-  cutting-end {rest} {now} C z = record { size = C .size; word = λ k l. C .word k l ∙ ap (wordOf k) (ap (λ (w : ℕ). has w k) z ∙ has-zero k) }
+  cutting-end {rest} {now} C z =
+      record { size = C .size; word = λ k l. C .word k l ∙ ap (wordOf k) (ap (λ (w : ℕ). has w k) z ∙ has-zero k) }
 
 -- ---- what is left of a table
 
@@ -126,22 +133,6 @@ unfolding leg row
 cut-leg {s} {out} {into} {t} {u} C i j li lj = ap (λ (w : ℕ). has w j) (C .word i li) ∙ cut-has s out into i (getD t i 0) j lj
 
 module _ (n : ℕ) (t : List ℕ) (most : n ≤ 64) (clean : stray n t ≡ false) where
-  row-fits : (i : ℕ) → i < 64 → row t i < 2 ^ 64
-  row-fits i l =
-      ⊎-elim
-      (λ h. lt-of-lt-of-le (stray-row n t most clean i h) (pow-mono most))
-      (λ h. subst (λ (w : ℕ). w < 2 ^ 64) (sym (stray-beyond n t clean i h l)) (pow-pos 64))
-      (below? i n)
-
-  -- a leg joins stations below n
-  pub leg-below : (i j : ℕ) → i < 64 → leg t i j ≡ true → (i < n) × (j < n)
-  unfolding leg
-  leg-below i j l e =
-      ⊎-elim
-      (λ h. (h, ⊎-elim (λ g. g) (λ g. clash (sym e ∙ has-above n (row t i) j (stray-row n t most clean i h) g)) (below? j n)))
-      (λ h. clash (sym e ∙ ap (λ (w : ℕ). has w j) (stray-beyond n t clean i h l) ∙ has-zero j))
-      (below? i n)
-
   -- where the cut takes just the legs that go, it leaves the table without them
   pub cut-rows : {s out into : ℕ} {u : List ℕ} (goes : ℕ → ℕ → Bool) → Cut s out into t u
       → ((i j : ℕ) → i < n → j < n → leg t i j ≡ true → goes i j ≡ cuts s out into i j) → u ≡ without n t goes
@@ -149,7 +140,7 @@ module _ (n : ℕ) (t : List ℕ) (most : n ≤ 64) (clean : stray n t ≡ false
       ext-getD 0 u (without n t goes) (C .size ∙ sym size) (λ i l.
       let li : i < 64 = omega (arith, C .size) in
       ext 64 (getD u i 0) (getD (without n t goes) i 0)
-      (subst (λ (w : ℕ). w < 2 ^ 64) (sym (C .word i li)) (cut-lt s out into i (getD t i 0) (unfold row in (row-fits i li))))
+      (subst (λ (w : ℕ). w < 2 ^ 64) (sym (C .word i li)) (cut-lt s out into i (getD t i 0) (unfold row in (row-fits n t most clean i li))))
       (unfold row in (left-fits i)) (λ j lj. unfold leg in unfold row in (legs i j li lj)))
     where
       stays : ℕ → ℕ → Bool
@@ -171,15 +162,17 @@ module _ (n : ℕ) (t : List ℕ) (most : n ≤ 64) (clean : stray n t ≡ false
           (λ e.
           let f : leg t i j && not (cuts s out into i j) ≡ true = sym (cut-leg C i j li lj) ∙ e in
           let on = and-l (leg t i j) (not (cuts s out into i j)) f in
-          let b = leg-below i j li on in
-          without-stays n t goes i j most (b .0) (b .1) on (same i j (b .0) (b .1) on ∙ not-true (cuts s out into i j) (and-r (leg t i j) (not (cuts s out into i j)) f)))
+          let b = leg-low n t most clean i j li on in
+          without-stays n t goes i j most (b .0) (b .1) on
+          (same i j (b .0) (b .1) on ∙ not-true (cuts s out into i j) (and-r (leg t i j) (not (cuts s out into i j)) f)))
           (λ e.
           let f = tableOf-leg n stays i j (unfold without in e) in
           let on = and-l (leg t i j) (not (goes i j)) (f .2) in
           cut-leg C i j li lj ∙ and-intro on (ap not (sym (same i j (f .0) (f .1) on)) ∙ and-r (leg t i j) (not (goes i j)) (f .2)))
 
 -- the columns, cut with the roles of `out` and `into` swapped, are the columns of the rows that are left
-pub cut-cols : {s out into : ℕ} {t u v : List ℕ} (n : ℕ) → n ≤ 64 → Cut s out into t u → Cut s into out (upto 64 (col n t)) v → v ≡ upto 64 (col n u)
+pub cut-cols : {s out into : ℕ} {t u v : List ℕ} (n : ℕ) → n ≤ 64 → Cut s out into t u → Cut s into out (upto 64 (col n t)) v
+    → v ≡ upto 64 (col n u)
 unfolding col
 cut-cols {s} {out} {into} {t} {u} {v} n most C D =
     upto-of 64 (col n u) 0 v (D .size) (λ k l. D .word k l ∙ ap (cutRow s into out k) (getD-upto 64 (col n t) 0 k l) ∙ column k l)

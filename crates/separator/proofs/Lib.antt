@@ -14,8 +14,10 @@ pub mod InnerLaws
 pub mod PartLaws
 pub mod RepresentativeLaws
 pub mod TakesLaws
+pub mod CleanLaws
 pub mod EndsLaws
-pub mod CutLaws
 pub mod SideLaws
+pub mod StandLaws
 pub mod SpareLaws
+pub mod CutLaws
 pub mod ExactLaws

@@ -14,7 +14,7 @@ use Rattle.separator.specs.Level.{stands, marking, passable, struck}
 
 -- ---- marks
 
--- i and j are two stations of s
+-- i and j are two different stations of s
 unfoldable pub pair : ℕ → ℕ → ℕ → Bool
 pair s i j = has s i && has s j && not (eqb i j)
 
@@ -71,4 +71,5 @@ pub record Cut (s out into : ℕ) (before after : List ℕ) : Type 0 where
 -- what `spare_stations` says of the level s: whether it gives none, and otherwise that the rule strikes the legs that the cut takes out
 pub record SparesOf (n : ℕ) (t : List ℕ) (s : ℕ) (r : Spares) : Type 0 where
   pub verdict : r .none ≡ not (passable n s (marking n t s))
-  pub strikes : r .none ≡ false → (i j : ℕ) → i < n → j < n → leg t i j ≡ true → struck n s (marking n t s) i j ≡ cuts s (r .out) (r .into) i j
+  pub strikes : r .none ≡ false → (i j : ℕ) → i < n → j < n → leg t i j ≡ true
+      → struck n s (marking n t s) i j ≡ cuts s (r .out) (r .into) i j

@@ -62,6 +62,7 @@ fn heads_bare(rows: &[u64; 64], s: u64, i: usize) -> u64
     rows[i] & s & !(1u64 << i)
 }
 
+// The ends of the pairs on which the component's mark stands.
 fn ends_through(rows: &[u64; 64], s: u64, part: u64) -> Ends
     ensures { λ r. ⌜ EndsOf (through (now (rows .entry)) s part) (r .tails) (r .heads) ⌝ }
 {
@@ -79,6 +80,7 @@ fn ends_through(rows: &[u64; 64], s: u64, part: u64) -> Ends
     Ends { tails, heads }
 }
 
+// The ends of the legs inside s.
 fn ends_bare(rows: &[u64; 64], s: u64) -> Ends
     ensures { λ r. ⌜ EndsOf (bare (now (rows .entry)) s) (r .tails) (r .heads) ⌝ }
 {
@@ -105,8 +107,8 @@ fn marks(
     into: &mut [u64; 64],
 ) -> Ends
     requires { ⌜ (p ≤ 64) × (length (now out) ≡ 64) × (length (now into) ≡ 64) ⌝ }
-    ensures { λ r. ⌜ Side (λ x y m. markAt (now (rows .entry)) s (now (parts .entry)) x y m) p (now (out .exit)) (r .tails)
-        × Side (λ x y m. markAt (now (rows .entry)) s (now (parts .entry)) y x m) p (now (into .exit)) (r .heads) ⌝ }
+    ensures { λ r. ⌜ Side (markAt (now (rows .entry)) s (now (parts .entry))) p (now (out .exit)) (r .tails)
+        × Side (λ x y. markAt (now (rows .entry)) s (now (parts .entry)) y x) p (now (into .exit)) (r .heads) ⌝ }
 {
     let all = ends_bare(rows, s);
     let mut tails = all.tails;
@@ -123,7 +125,8 @@ fn marks(
     Ends { tails, heads }
 }
 
-// The choices of one side: `fits` has the stations that can take each component, and `some` those with a mark.
+// One side, out or in: `fits` has the stations that can take each component, and `some` those with a mark. There is a choice if every station of s has a
+// mark and the components can be assigned; then the spare stations can take a bare leg instead.
 fn settle(fits: &[u64; 64], p: usize, s: u64, some: u64) -> matching::Assigned
     requires { ⌜ (p ≤ 64) × Inside (now fits) p s ⌝ }
     ensures { λ r. ⌜ Settled (now (fits .entry)) p s some (r .complete) (r .spare) ⌝ }
@@ -137,7 +140,7 @@ fn settle(fits: &[u64; 64], p: usize, s: u64, some: u64) -> matching::Assigned
     matching::assign(fits, p, s)
 }
 
-// The spare stations of the level s, out and in; `parts` has the p components outside s.
+// The spare stations of the level s, out and in; `parts` has the p components outside s, and n is the number of stations of the table.
 pub fn spare_stations(rows: &[u64; 64], s: u64, parts: &[u64; 64], p: usize) -> Spares
     requires { ⌜ (p ≤ 64) × (length (now parts) ≡ 64) ⌝ }
     ensures { λ r. ⌜ ((n : ℕ) → n ≤ 64 → stray n (now (rows .entry)) ≡ false → s < 2 ^ n
@@ -167,7 +170,7 @@ fn cut_word(w: u64, s: u64, out: u64, into: u64, i: usize) -> u64
     }
 }
 
-// Cuts every word of a station of s.
+// Cuts the word of every station of s. The rows and the columns of a table stay those of one table if the columns are cut with `out` and `into` swapped.
 pub fn cut(words: &mut [u64; 64], s: u64, out: u64, into: u64)
     requires { ⌜ length (now words) ≡ 64 ⌝ }
     ensures { λ _. ⌜ Cut s out into (now (words .entry)) (now (words .exit)) ⌝ }

@@ -1,6 +1,7 @@
 // One separator: levels from a seed, components outside a level, marks, and the rule of one level.
-pub mod reach;
 pub mod level;
+pub mod reach;
+
 ghost use denote.Ref.{now};
 ghost use mathlib.Core.Bool.{false};
 ghost use mathlib.Core.Path.{_≡_};

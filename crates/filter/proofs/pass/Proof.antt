@@ -83,7 +83,7 @@ by-hand-requires c κs =
     let w = a .work in (
       s .state,
       subst (λ (v : Verdict). Within w v) (sym (c .pass-rows .ensures ∙ ap (pass (w .n) (rowsOf w) (w .limit)) (s .index)))
-      (within w (pass (w .n) (rowsOf w) (w .limit) (pred (a .seed))) (s .state) (pass-sound (w .n) (rowsOf w) (w .limit) (pred (a .seed)) (omega (arith, s .least, s .most)) (s .state .most))),
+          (within w (pass (w .n) (rowsOf w) (w .limit) (pred (a .seed))) (s .state) (pass-sound (w .n) (rowsOf w) (w .limit) (pred (a .seed)) (omega (arith, s .least, s .most)) (s .state .most))),
       sym (e .before .is-none .ensures) ∙ e .if3 .left,
     )
 

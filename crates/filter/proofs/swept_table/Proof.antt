@@ -53,9 +53,9 @@ loop-again c =
     let i = v .i in (
       omega arith,
       changed-more (r .result) (v .inv .1) (omega arith)
-      (swept-in (a .n) (a .rows) i (r .result) (omega arith)
-      (swept-row (a .n) (a .rows) (req .0) (req .1) (a .next) (a .prev) (req .2) (req .3) i (r .result) (omega arith) (r .ok)
-      (λ j l. r .ensures j l ∙ ap (λ (w : ℕ). has w j && keeps (a .next) (a .prev) i j) (changed-here 0 (v .inv .1))))),
+          (swept-in (a .n) (a .rows) i (r .result) (omega arith)
+          (swept-row (a .n) (a .rows) (req .0) (req .1) (a .next) (a .prev) (req .2) (req .3) i (r .result) (omega arith) (r .ok)
+          (λ j l. r .ensures j l ∙ ap (λ (w : ℕ). has w j && keeps (a .next) (a .prev) i j) (changed-here 0 (v .inv .1))))),
     )
 
 returns : tie.Need-returns Inv-loop μ-loop

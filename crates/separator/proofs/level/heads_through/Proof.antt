@@ -17,7 +17,8 @@ shl-result c = search needs
 returns : tie.Need-returns
 returns c =
     let s = c .before .before in
-    through-some (s .args .rows .now) (s .args .s) (s .args .part) (s .args .last) (s .args .i) (s .pre .0) (s .pre .1) (s .pre .2) (s .fits .part .fits) (omega arith)
+    let a = s .args in
+    through-some (a .rows .now) (a .s) (a .part) (a .last) (a .i) (s .pre .0) (s .pre .1) (s .pre .2) (s .fits .part .fits) (omega arith)
 
 returns-2 : tie.Need-returns-2
 returns-2 c = let s = c .before .before in through-none (s .args .rows .now) (s .args .s) (s .args .part) (s .args .i) (omega arith)

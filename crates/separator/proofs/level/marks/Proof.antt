@@ -10,7 +10,7 @@ use Rattle.separator.proofs.level.marks.Tie as tie
 
 abbrev Inv-loop : tie.InvT-loop
 Inv-loop rows s parts p out₀ into₀ tails₀ heads₀ c₀ out into tails heads c =
-    (c ≤ p) × Side (λ x y m. markAt rows s parts x y m) c out tails × Side (λ x y m. markAt rows s parts y x m) c into heads
+    (c ≤ p) × Side (markAt rows s parts) c out tails × Side (λ x y. markAt rows s parts y x) c into heads
 
 abbrev μ-loop : tie.MeasureT-loop
 μ-loop rows s parts p out₀ into₀ tails₀ heads₀ c₀ out into tails heads c = p - c
@@ -20,7 +20,12 @@ ends-bare-requires c κs = tt
 
 loop-holds : tie.Need-loop-holds Inv-loop μ-loop
 loop-holds c =
-    (omega arith, side-start _ _ _ (c .before .pre .1) (unfold markAt in unfold stands in (c .ends-bare .ensures .tail)), side-start _ _ _ (c .before .pre .2) (unfold markAt in unfold stands in (c .ends-bare .ensures .head)))
+    let s = c .before in
+    let e = c .ends-bare .ensures in (
+      omega arith,
+      side-start _ _ _ (s .pre .1) (unfold markAt in unfold stands in (e .tail)),
+      side-start _ _ _ (s .pre .2) (unfold markAt in unfold stands in (e .head)),
+    )
 
 mul-ends-through : tie.Need-mul-ends-through Inv-loop μ-loop
 mul-ends-through c = omega arith
@@ -52,10 +57,10 @@ loop-less c = omega arith
 loop-again : tie.Need-loop-again Inv-loop μ-loop
 loop-again c =
     let v = c .before .before .before .before .before .loop in
-    let e = c .before .before .ends-through in (
+    let e = c .before .before .ends-through .ensures in (
       omega arith,
-      side-more _ (v .c) (v .out) (v .tails) _ _ (v .inv .1) (omega arith) (unfold markAt in unfold stands in (e .ensures .tail)) (omega arith),
-      side-more _ (v .c) (v .into) (v .heads) _ _ (v .inv .2) (omega arith) (unfold markAt in unfold stands in (e .ensures .head)) (omega arith),
+      side-more _ (v .c) (v .out) (v .tails) _ _ (v .inv .1) (omega arith) (unfold markAt in unfold stands in (e .tail)) (omega arith),
+      side-more _ (v .c) (v .into) (v .heads) _ _ (v .inv .2) (omega arith) (unfold markAt in unfold stands in (e .head)) (omega arith),
     )
 
 returns : tie.Need-returns Inv-loop μ-loop

@@ -1,0 +1,122 @@
+-- The table of a page: its rows as the code puts them together. Assumes nothing.
+use mathlib.Core.Path.{_≡_, refl, sym, ap, ap₂, _∙_}
+use mathlib.Core.Logic.{⊎-elim}
+use mathlib.Core.Bool.{Bool, true, false, not, cond, _&&_}
+use mathlib.Core.List.{List, [], _∷_, map}
+use mathlib.Core.Option.{none}
+use Prim.Native.Nat.{ℕ, zero, suc, _-_, _^_, _≤_, _<_}
+use native.Mathlib.Nat.{lt-of-lt-of-le, not-suc-le-zero, le-of-suc-le-suc}
+use native.Mathlib.Omega.{arith}
+use lib.Bits.{bitAnd, and-le-l}
+use lib.Dec.{eqb, ltb}
+use lib.ListN.{length, getD, take}
+use lib.Pow.{pow-mono}
+use lib.Seq.{getD-take}
+use borrow.Author.Tests.{lt-ltb, le-ltb}
+use Rattle.bitset.specs.Sets.{has, setOf}
+use Rattle.bitset.specs.Upto.{upto}
+use Rattle.bitset.proofs.BoolLaws.{cond-true, cond-false, taut3}
+use Rattle.bitset.proofs.QuantLaws.{below?}
+use Rattle.bitset.proofs.HasLaws.{has-and, has-not}
+use Rattle.bitset.proofs.SetLaws.{setOf-lt, has-setOf, eq-setOf, setOf-ext}
+use Rattle.bitset.proofs.UptoLaws.{getD-upto, upto-cong}
+use Rattle.circuit.specs.Legs.{row, leg, col, tableOf, fullTable}
+use Rattle.circuit.proofs.LegsLaws.{row-in, row-out}
+use Rattle.sheet.specs.Layout.{Entry, Page, allows, fixes, entryAt, given}
+use Rattle.sheet.specs.Reader.{nextOf, prevOf, legal}
+
+-- row i of the table
+abbrev pub legalRow : ℕ → List ℕ → List ℕ → ℕ → ℕ
+legalRow n next barred i = cond (ltb i n) (setOf n (legal next barred i)) 0
+
+pub legal-rows : (n : ℕ) (next barred : List ℕ) → upto 64 (legalRow n next barred) ≡ tableOf n (legal next barred)
+unfolding tableOf
+legal-rows n next barred = refl
+
+module _ (n i : ℕ) (next barred : List ℕ) (le : n ≤ 64) (h : i < 64) where
+  -- the stations that i may not come before
+  abbrev bars : ℕ
+  bars = getD (upto 64 (col n barred)) i 0
+
+  bars-is : bars ≡ setOf n (λ j. has (getD barred j 0) i)
+  unfolding col leg row
+  bars-is = getD-upto 64 (col n barred) 0 i h
+
+  kept : (j : ℕ) → j < n → has ((2 ^ 64 - 1) - bars) j ≡ not (has (getD barred j 0) i)
+  kept j l =
+      rw bars-is
+      (has-not 64 (setOf n (λ j. has (getD barred j 0) i)) j (lt-of-lt-of-le (setOf-lt n _) (pow-mono le)) (lt-of-lt-of-le l le)
+      ∙ ap not (has-setOf n (λ j. has (getD barred j 0) i) j l))
+
+  abbrev allowed : ℕ
+  allowed = bitAnd (getD next i 0) ((2 ^ 64 - 1) - bars)
+
+  row-inside : i < n → bitAnd (setOf n (λ j. not (eqb i j))) allowed ≡ setOf n (legal next barred i)
+  row-inside l =
+      let own = setOf n (λ j. not (eqb i j)) in
+      eq-setOf n (bitAnd own allowed) (legal next barred i) (omega (arith, and-le-l own allowed, setOf-lt n (λ j. not (eqb i j)))) (λ j k.
+      has-and own allowed j
+      ∙ ap₂ (λ (a b : Bool). a && b) (has-setOf n (λ j. not (eqb i j)) j k)
+      (has-and (getD next i 0) ((2 ^ 64 - 1) - bars) j ∙ ap (λ (b : Bool). has (getD next i 0) j && b) (kept j k)))
+
+  -- `rows[i] & next[i] & !cols[i]`, from the row of the full table
+  pub row-is : bitAnd (getD (fullTable n) i 0) allowed ≡ legalRow n next barred i
+  unfolding fullTable row
+  row-is =
+      ⊎-elim
+      (λ (l : i < n).
+      ap (λ (w : ℕ). bitAnd w allowed) (row-in n (λ i j. not (eqb i j)) i le l) ∙ row-inside l ∙ sym (cond-true (setOf n (legal next barred i)) 0 (lt-ltb i n l)))
+      (λ (g : n ≤ i).
+      let none : bitAnd 0 allowed ≡ 0 = omega (arith, and-le-l 0 allowed) in
+      ap (λ (w : ℕ). bitAnd w allowed) (row-out n (λ i j. not (eqb i j)) i g) ∙ none ∙ sym (cond-false (setOf n (legal next barred i)) 0 (le-ltb i n g)))
+      (below? i n)
+
+-- a table by its legs between stations below n
+pub tableOf-ext : (n : ℕ) (p q : ℕ → ℕ → Bool) → ((i j : ℕ) → i < n → j < n → p i j ≡ q i j) → tableOf n p ≡ tableOf n q
+unfolding tableOf
+tableOf-ext n p q f =
+    upto-cong 64 (λ i. cond (ltb i n) (setOf n (p i)) 0) (λ i. cond (ltb i n) (setOf n (q i)) 0) (λ i _.
+    ⊎-elim (λ (l : i < n). ap (λ (w : ℕ). cond (ltb i n) w 0) (setOf-ext n (p i) (q i) (λ j k. f i j l k)))
+    (λ (g : n ≤ i). cond-false (setOf n (p i)) 0 (le-ltb i n g) ∙ sym (cond-false (setOf n (q i)) 0 (le-ltb i n g)))
+    (below? i n))
+
+-- ---- the words of a page
+
+-- the stations that may not come before the station of a record
+abbrev pub barredOf : Entry → ℕ
+barredOf e = (2 ^ 64 - 1) - prevOf e
+
+-- the record that says nothing
+abbrev free : Entry
+free = record { next = none; prev = none; fixed = none }
+
+getD-map : (f : Entry → ℕ) (es : List Entry) (k : ℕ) → k < length es → getD (map f es) k 0 ≡ f (getD es k free)
+getD-map f [] k l = absurd (not-suc-le-zero l)
+getD-map f (e ∷ es) zero l = refl
+getD-map f (e ∷ es) (suc k) l = getD-map f es k (le-of-suc-le-suc l)
+
+pub mapped-at : (f : Entry → ℕ) (es : List Entry) (l : List ℕ) (n : ℕ) → length es ≡ n → take n l ≡ map f es → (k : ℕ) → k < n → getD l k 0 ≡ f (getD es k free)
+mapped-at f es l n c e k h = sym (getD-take n l k 0 h) ∙ ap (λ (t : List ℕ). getD t k 0) e ∙ getD-map f es k (omega (arith))
+
+regroup : (a b c d : Bool) → a && (b && d && not (not c)) ≡ a && b && c && d
+regroup true b c d = taut3 (λ b c d. b && d && not (not c)) (λ b c d. b && c && d) refl b c d
+regroup false b c d = refl
+
+module _ (p : Page) (next barred : List ℕ) (le : p .stations ≤ 64)
+    (follow : (k : ℕ) → k < p .stations → getD next k 0 ≡ nextOf (getD (p .entries) k free))
+    (bars : (k : ℕ) → k < p .stations → getD barred k 0 ≡ barredOf (getD (p .entries) k free))
+  where
+    leg-given : (i j : ℕ) → i < p .stations → j < p .stations → legal next barred i j ≡ given p i j
+    unfolding given entryAt
+    leg-given i j hi hj =
+        let e = getD (p .entries) i free in
+        let f = getD (p .entries) j free in
+        let passes : ℕ → Bool = λ k. allows (e .next) k && fixes (e .fixed) k in
+        let here : has (getD next i 0) j ≡ passes j = ap (λ (w : ℕ). has w j) (follow i hi) ∙ has-setOf 64 passes j (lt-of-lt-of-le hj le) in
+        let there : has (getD barred j 0) i ≡ not (allows (f .prev) i) =
+        ap (λ (w : ℕ). has w i) (bars j hj)
+        ∙ (has-not 64 (prevOf f) i (setOf-lt 64 (allows (f .prev))) (lt-of-lt-of-le hi le) ∙ ap not (has-setOf 64 (allows (f .prev)) i (lt-of-lt-of-le hi le))) in
+        rw (here, there) (regroup (not (eqb i j)) (allows (e .next) j) (allows (f .prev) i) (fixes (e .fixed) j))
+
+    pub legal-given : tableOf (p .stations) (legal next barred) ≡ tableOf (p .stations) (given p)
+    legal-given = tableOf-ext (p .stations) (legal next barred) (given p) leg-given
