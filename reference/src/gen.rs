@@ -3,6 +3,9 @@
 use crate::card::{self, Number};
 use crate::table::{Leg, LegTable};
 
+/// Numbers that a cast to fewer bits turns into 1, or that are just large.
+pub const WIDE_NUMBERS: [u64; 5] = [257, 1 << 32, (1 << 32) + 1, 1 << 63, u64::MAX];
+
 /// Marsaglia's generator with shifts 13, 7, 17.
 pub struct Xorshift {
     word: u64,
@@ -346,6 +349,37 @@ impl Sheet {
         sheet
     }
 
+    /// A sheet that gives a table by fields of all kinds. Each missing leg is
+    /// left out of a next set, of a previous set or of both, or its station is
+    /// fixed elsewhere.
+    pub fn mixed(rng: &mut Xorshift, table: &LegTable) -> Sheet {
+        let n = table.n();
+        let all = u64::MAX >> (64 - n);
+        let mut sheet = Sheet::plain(n);
+        let (mut next, mut previous) = (vec![all; n], vec![all; n]);
+        for i in 1..=n {
+            let fixed = fixed_station(rng, table, i);
+            sheet.records[i - 1].fixed = fixed.map(|station| station as u8);
+            for j in table.stations().filter(|&j| !table.has(i, j)) {
+                // The own bit and those of a fixed station may stay in both.
+                let least = usize::from(i != j && fixed.is_none());
+                let cut = rng.between(least, 3);
+                if cut & 1 != 0 {
+                    next[i - 1] &= !(1 << (j - 1));
+                }
+                if cut & 2 != 0 {
+                    previous[j - 1] &= !(1 << (i - 1));
+                }
+            }
+        }
+        // A set of all stations is mostly left away.
+        for (at, record) in sheet.records.iter_mut().enumerate() {
+            record.next = (next[at] != all || rng.percent(30)).then_some(next[at]);
+            record.previous = (previous[at] != all || rng.percent(30)).then_some(previous[at]);
+        }
+        sheet
+    }
+
     /// Any mixture of fields; sets may hold the own station or nothing.
     pub fn random(rng: &mut Xorshift, n: usize) -> Sheet {
         let mut sheet = Sheet::plain(n);
@@ -370,6 +404,13 @@ impl Sheet {
         let before = &self.records[..record];
         1 + before.iter().map(|r| r.bytes().len()).sum::<usize>()
     }
+}
+
+/// The station that one with at most a single leg is fixed to, if it is.
+fn fixed_station(rng: &mut Xorshift, table: &LegTable, i: usize) -> Option<usize> {
+    let successors = table.successors(i);
+    let fix = successors.len() <= 1 && rng.percent(60);
+    fix.then(|| successors.first().copied().unwrap_or(i))
 }
 
 fn random_set(rng: &mut Xorshift, n: usize) -> u64 {

@@ -248,24 +248,5 @@ fn answer(
             return writeln!(out);
         }
     }
-    state_line(state, out)
-}
-
-fn state_line(state: &WorkState, out: &mut impl Write) -> io::Result<()> {
-    write!(
-        out,
-        "state n {} limit {} place {} mark {} end {} legs {}",
-        state.n,
-        state.limit,
-        state.place,
-        u8::from(state.mark),
-        state.end.word(),
-        state.legs()
-    )?;
-    for (at, row) in state.rows.iter().enumerate() {
-        if *row != 0 {
-            write!(out, " {}={row:016x}", at + 1)?;
-        }
-    }
-    writeln!(out)
+    writeln!(out, "state {state}")
 }

@@ -1,6 +1,8 @@
 //! The work state as it passes the boundary: raw words, so that a bad state can
 //! be written down and refused.
 
+use std::fmt;
+
 use crate::table::LegTable;
 
 /// Bit k−1 of word i−1 stands for the leg i→k.
@@ -70,6 +72,28 @@ impl WorkState {
             .iter()
             .map(|row| u64::from(row.count_ones()))
             .sum()
+    }
+}
+
+/// One line with all words of the state; empty rows are left out.
+impl fmt::Display for WorkState {
+    fn fmt(&self, out: &mut fmt::Formatter) -> fmt::Result {
+        write!(
+            out,
+            "n {} limit {} place {} mark {} end {} legs {}",
+            self.n,
+            self.limit,
+            self.place,
+            u8::from(self.mark),
+            self.end.word(),
+            self.legs()
+        )?;
+        for (at, row) in self.rows.iter().enumerate() {
+            if *row != 0 {
+                write!(out, " {}={row:016x}", at + 1)?;
+            }
+        }
+        Ok(())
     }
 }
 

@@ -1,7 +1,6 @@
 -- The hand rules by cases, as the code goes through them. Assumes nothing.
 use mathlib.Core.Path.{_≡_, sym, ap, ap₂, _∙_}
-use mathlib.Core.Bool.{Bool, true, false, cond}
-use mathlib.Core.List.{List}
+use mathlib.Core.Bool.{true, false, cond}
 use Prim.Native.Nat.{ℕ, pred, _-_, _≤_}
 use native.Mathlib.Omega.{arith}
 use lib.Count.{ones}

@@ -1,9 +1,9 @@
 -- What `single_words` gathers, and that the sweep's rule can be read from it. Assumes nothing.
-use mathlib.Core.Path.{_≡_, refl, sym, ap, ap₂, _∙_, subst}
+use mathlib.Core.Path.{_≡_, refl, sym, ap, ap₂, _∙_}
 use mathlib.Core.Logic.{⊎-elim}
 use mathlib.Core.Bool.{Bool, true, false, not, cond, _&&_, _||_, or-comm, or-false, and-comm, and-assoc, and-true}
 use mathlib.Core.List.{List}
-use Prim.Native.Nat.{ℕ, suc, _+_, _-_, _^_, _≤_, _<_}
+use Prim.Native.Nat.{ℕ, _+_, _-_, _^_, _≤_, _<_}
 use native.Mathlib.Numerals.{add-one}
 use native.Mathlib.Omega.{arith}
 use lib.Bits.{bitAnd, bitOr}
@@ -11,9 +11,9 @@ use lib.Count.{ones}
 use lib.Dec.{eqb, ltb}
 use lib.ListN.{getD}
 use lib.Pow.{pow-lt}
-use borrow.Author.Tests.{eqb-true, eqb-false, eq-eqb, ne-eqb, lt-ltb, le-ltb, not-true, ltb-true}
+use borrow.Author.Tests.{eqb-true, eqb-false, eq-eqb, ne-eqb, lt-ltb, le-ltb, not-true}
 use Rattle.bitset.specs.Sets.{has, any}
-use Rattle.bitset.proofs.BoolLaws.{iff, not-both, clash, cases, is-false, and-intro, and-l, and-r, cond-true, cond-false, cond-elim, taut2}
+use Rattle.bitset.proofs.BoolLaws.{iff, not-both, clash, cases, and-intro, and-l, and-r, cond-true, cond-false, cond-elim, taut2}
 use Rattle.bitset.proofs.QuantLaws.{below?, any-intro, any-elim}
 use Rattle.bitset.proofs.HasLaws.{has-zero, has-and, has-or}
 use Rattle.bitset.proofs.SetLaws.{has-self, has-diff}

@@ -12,7 +12,7 @@ use lib.Pow.{pow-mono}
 use borrow.Author.Tests.{lt-ltb, le-ltb}
 use Rattle.bitset.specs.Sets.{has, any, setOf}
 use Rattle.bitset.specs.Upto.{upto}
-use Rattle.bitset.proofs.BoolLaws.{clash, cases, and-intro, and-l, cond-true, cond-false}
+use Rattle.bitset.proofs.BoolLaws.{clash, cases, and-l, cond-true, cond-false}
 use Rattle.bitset.proofs.QuantLaws.{below?, any-intro, any-elim, any-ext, any-or}
 use Rattle.bitset.proofs.HasLaws.{has-zero, has-above, ext}
 use Rattle.bitset.proofs.SetLaws.{has-setOf, setOf-lt, setOf-above}

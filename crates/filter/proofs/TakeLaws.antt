@@ -1,8 +1,8 @@
 -- The levels of a pass, as the code takes them. Assumes nothing.
-use mathlib.Core.Path.{_≡_, sym, ap, ap₂, _∙_, subst}
+use mathlib.Core.Path.{_≡_, sym, ap, _∙_}
 use mathlib.Core.Logic.{⊎-elim}
 use mathlib.Core.Bool.{Bool, true, false, cond}
-use mathlib.Core.List.{List, [], _∷_}
+use mathlib.Core.List.{List, _∷_}
 use Prim.Native.Nat.{ℕ, _+_, _^_, _≤_, _<_}
 use lib.Count.{ones}
 use lib.Dec.{leb}
@@ -13,14 +13,14 @@ use Rattle.bitset.proofs.BoolLaws.{cases, cond-true, cond-false}
 use Rattle.bitset.proofs.OnesLaws.{size-ones}
 use Rattle.circuit.specs.declared.Verdict.{Verdict}
 use Rattle.circuit.specs.State.{stray}
-use Rattle.circuit.specs.Verdict.{saysNone, leaves}
+use Rattle.circuit.specs.Verdict.{leaves}
 use Rattle.separator.specs.Levels.{levels, inner}
 use Rattle.separator.specs.Level.{level}
 use Rattle.separator.specs.Strike.{LevelOf}
 use Rattle.separator.proofs.ExactLaws.{level-clean}
 use Rattle.separator.proofs.InnerLaws.{innerFrom, inner-start, inner-step, inner-end}
 use Rattle.filter.specs.Pass.{passOver, pass}
-use Rattle.filter.specs.Inner.{Columned, limited, LevelTaken}
+use Rattle.filter.specs.Inner.{Columned, limited, LevelTaken, LevelsTaken}
 
 -- ---- one level
 
@@ -67,15 +67,15 @@ module _ (n limit count : ℕ) (level t : List ℕ) (most : count ≤ length lev
         ∙ ap (λ (v : Verdict). cond (v .none) v (passOver (innerFrom (k + 1) count level) n limit (v .left))) (T .verdict)
 
     -- the verdict none stops the pass
-    pub passing-none : k + 1 < count → LevelTaken n limit (getD level k 0) rows none rows′ cols′ → none ≡ true → passOver (inner (take count level)) n limit t ≡ record { none = true; left = rows′ }
-    passing-none l T e = next l T ∙ cond-true _ _ e ∙ ap (λ (b : Bool). record { none = b; left = rows′ }) e
+    pub passing-none : k + 1 < count → LevelTaken n limit (getD level k 0) rows none rows′ cols′ → none ≡ true → LevelsTaken n limit count level t true rows′ cols′
+    passing-none l T e = record { verdict = next l T ∙ cond-true _ _ e ∙ ap (λ (b : Bool). record { none = b; left = rows′ }) e; columns = T .table .columns }
 
     pub passing-turn : k + 1 < count → LevelTaken n limit (getD level k 0) rows none rows′ cols′ → none ≡ false → Passing n limit count level t (k + 1) rows′ cols′
     passing-turn l T e = record { table = T .table; rest = sym (next l T ∙ cond-false _ _ e) }
 
-  pub passing-end : (k : ℕ) (rows cols : List ℕ) → Passing n limit count level t k rows cols → count ≤ k + 1 → passOver (inner (take count level)) n limit t ≡ record { none = false; left = rows }
+  pub passing-end : (k : ℕ) (rows cols : List ℕ) → Passing n limit count level t k rows cols → count ≤ k + 1 → LevelsTaken n limit count level t false rows cols
   unfolding passOver
-  passing-end k rows cols P l = sym (P .rest) ∙ ap (λ (x : List ℕ). passOver x n limit rows) (inner-end k count level l)
+  passing-end k rows cols P l = record { verdict = sym (P .rest) ∙ ap (λ (x : List ℕ). passOver x n limit rows) (inner-end k count level l); columns = P .table .columns }
 
 -- ---- the pass
 

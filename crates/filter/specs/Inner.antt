@@ -40,6 +40,7 @@ pub record LevelTaken (n limit s : ℕ) (t : List ℕ) (none : Bool) (rows cols 
 abbrev pub LevelsBelow : ℕ → ℕ → List ℕ → Type 0
 LevelsBelow n count level = (k : ℕ) → k < count → getD level k 0 < 2 ^ n
 
--- the verdict of the levels 1 to m - 1, of the first `count` words, on the table t
-abbrev pub PassOf : ℕ → ℕ → ℕ → List ℕ → List ℕ → Bool → List ℕ → Type 0
-PassOf n limit count level t none left = passOver (inner (take count level)) n limit t ≡ record { none = none; left = left }
+-- what taking the levels 1 to m - 1, of the first `count` words, does to the rows and the columns of the table t
+pub record LevelsTaken (n limit count : ℕ) (level t : List ℕ) (none : Bool) (rows cols : List ℕ) : Type 0 where
+  pub verdict : passOver (inner (take count level)) n limit t ≡ record { none = none; left = rows }
+  pub columns : cols ≡ upto 64 (col n rows)

@@ -8,12 +8,9 @@ mod passes;
 mod runs;
 mod sweeps;
 
-use crate::gen::Sheet;
+use crate::gen::{Sheet, WIDE_NUMBERS};
 use crate::script::Script;
 use crate::table::LegTable;
-
-/// Numbers that a cast to fewer bits turns into 1, or that are just large.
-const WIDE_NUMBERS: [u64; 5] = [257, 1 << 32, (1 << 32) + 1, 1 << 63, u64::MAX];
 
 pub fn script() -> Script {
     let mut script = Script::default();

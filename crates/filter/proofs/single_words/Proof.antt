@@ -3,7 +3,7 @@ use borrow.Author.Needs.{needs}
 use mathlib.Core.Path.{_≡_, subst}
 use Prim.Native.Nat.{ℕ, _-_, _^_, _≤_, _<_}
 use native.Mathlib.Omega.{arith}
-use lib.Bits.{bitAnd, bitOr, and-le-l, or-lt}
+use lib.Bits.{bitAnd, and-le-l, or-lt}
 use Rattle.filter.specs.Singles.{SinglesOf}
 use Rattle.filter.proofs.SinglesLaws.{singles-start, singles-turn}
 use Rattle.filter.proofs.single_words.Statement.{statement}

@@ -1,6 +1,6 @@
 -- `filter::take_levels` meets its contract: at level k, what is left of the pass is the whole pass.
 use borrow.Author.Needs.{needs}
-use Prim.Native.Nat.{ℕ, _-_, _≤_}
+use Prim.Native.Nat.{_-_, _≤_}
 use native.Mathlib.Omega.{arith}
 use lib.ListN.{length}
 use Rattle.filter.proofs.TakeLaws.{Passing, passing-start, passing-none, passing-turn, passing-end}

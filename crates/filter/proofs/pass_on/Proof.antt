@@ -1,21 +1,17 @@
--- `filter::pass_rows` meets its contract.
+-- `filter::pass_on` meets its contract.
 use borrow.Author.Needs.{needs}
 use mathlib.Core.Path.{_≡_}
-use Prim.Native.Nat.{ℕ}
 use lib.ListN.{length}
 use Rattle.circuit.proofs.StateLaws.{stray-row}
 use Rattle.separator.proofs.InnerLaws.{level-below}
 use Rattle.filter.proofs.TakeLaws.{pass-is}
-use Rattle.filter.proofs.pass_rows.Statement.{statement}
-use Rattle.filter.proofs.pass_rows.Tie as tie
-
-columns-requires : tie.Need-columns-requires
-columns-requires c κs = search needs
+use Rattle.filter.proofs.pass_on.Statement.{statement}
+use Rattle.filter.proofs.pass_on.Tie as tie
 
 neighbours-requires : tie.Need-neighbours-requires
 neighbours-requires c κs =
-    let s = c .before .before .before .before in
-    (s .pre .0, stray-row (s .args .n) (s .args .t1) (s .pre .0) (s .pre .1), c .before .before .columns .ensures)
+    let s = c .before .before in
+    (s .pre .0, stray-row (s .args .n) (s .args .t1) (s .pre .0) (s .pre .1), s .pre .3)
 
 levels-from-requires : tie.Need-levels-from-requires
 levels-from-requires c κs = search needs
@@ -24,8 +20,7 @@ take-levels-requires : tie.Need-take-levels-requires
 take-levels-requires c κs =
     let found = c .before .before .before .before in
     let nbr = found .before .before in
-    let cols = nbr .before .before .before in
-    let s = cols .before .before in
+    let s = nbr .before .before .before in
     let n = s .args .n in
     let of = found .levels-from .ensures .1 n (s .args .t1) (nbr .neighbours .ensures) (s .pre .2) in
     let long : length (found .levels-from .result .level) ≡ 64 = (let ok = found .levels-from .ok in search needs) in
@@ -34,23 +29,18 @@ take-levels-requires c κs =
       found .levels-from .ensures .0,
       long,
       level-below n (s .args .t1) (s .args .seed) _ _ (of .1) (s .pre .2),
-      record { clean = s .pre .1; len = len; columns = cols .columns .ensures },
+      record { clean = s .pre .1; len = len; columns = s .pre .3 },
     )
 
 returns : tie.Need-returns
 returns c =
     let found = c .before .before .before .before .before in
     let nbr = found .before .before in
-    let s = nbr .before .before .before .before .before in
+    let s = nbr .before .before .before in
     let of = found .levels-from .ensures .1 (s .args .n) (s .args .t1) (nbr .neighbours .ensures) (s .pre .2) in
-    pass-is (s .args .n) (s .args .limit) (s .args .seed) (found .levels-from .result .count) (found .levels-from .result .level) (s .args .t1) _ _ (of .1) (c .take-levels .ensures)
+    let taken = c .take-levels .ensures in
+    (pass-is (s .args .n) (s .args .limit) (s .args .seed) (found .levels-from .result .count) (found .levels-from .result .level) (s .args .t1) _ _ (of .1) (taken .verdict), taken .columns)
 
-pub pass-rows-spec : {M : Type 1} → statement M
-pass-rows-spec =
-    tie.close
-    (tie.spec
-    columns-requires
-    neighbours-requires
-    levels-from-requires
-    take-levels-requires
-    returns)
+pub pass-on-spec : {M : Type 1} → statement M
+pass-on-spec =
+    tie.close (tie.spec neighbours-requires levels-from-requires take-levels-requires returns)

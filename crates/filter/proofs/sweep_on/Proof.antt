@@ -1,0 +1,21 @@
+-- `filter::sweep_on` meets its contract.
+use borrow.Author.Needs.{needs}
+use mathlib.Core.Path.{_∙_}
+use Rattle.filter.proofs.sweep_on.Statement.{statement}
+use Rattle.filter.proofs.sweep_on.Tie as tie
+
+sweep-rows-requires : tie.Need-sweep-rows-requires
+sweep-rows-requires c κs = search needs
+
+columns-requires : tie.Need-columns-requires
+columns-requires c κs = search needs
+
+copy-words-requires : tie.Need-copy-words-requires
+copy-words-requires c κs = search needs
+
+returns : tie.Need-returns
+returns c = (c .before .before .before .before .before .before .sweep-rows .ensures, c .copy-words .ensures ∙ c .before .before .before .columns .ensures)
+
+pub sweep-on-spec : {M : Type 1} → statement M
+sweep-on-spec =
+    tie.close (tie.spec sweep-rows-requires columns-requires copy-words-requires returns)
