@@ -9,10 +9,13 @@
 pub mod calls;
 pub mod card;
 pub mod choices;
+pub mod compare;
 pub mod fast;
 pub mod gen;
 pub mod graph;
 pub mod hand;
+#[cfg(feature = "library")]
+pub mod library;
 pub mod lines;
 pub mod list;
 pub mod paper;
@@ -26,9 +29,12 @@ pub mod state;
 pub mod sweep;
 pub mod table;
 pub mod vectors;
+pub mod words;
 
 pub use calls::{Calls, Fast, Plain};
 pub use hand::Handled;
+#[cfg(feature = "library")]
+pub use library::Library;
 pub use lines::{report, Reported};
 pub use list::{list_check, Checked};
 pub use pass::pass;

@@ -48,7 +48,7 @@ word-turn s k v p le l e =
     let more : 8 - (k - 1) ≡ suc (8 - k) = omega arith in
     let next : suc (k - 1) ≡ k = omega arith in
     let there : k - 1 < length s = omega arith in
-    rw (more, drop-cons s (k - 1) 0, next, ← e) (omega arith)
+    rw (more, drop-cons s (k - 1) 0, next) (omega arith)
 
 pub word-fits : (k v b : ℕ) → 0 < k → k ≤ 8 → b < 256 → v < 2 ^ (64 - 8 * k) → 256 * v + b < 2 ^ (64 - 8 * (k - 1))
 word-fits k v b p le h f =

@@ -48,11 +48,12 @@ module _ (n i : ℕ) (next barred : List ℕ) (le : n ≤ 64) (h : i < 64) where
       (has-not 64 (setOf n (λ j. has (getD barred j 0) i)) j (lt-of-lt-of-le (setOf-lt n _) (pow-mono le)) (lt-of-lt-of-le l le)
       ∙ ap not (has-setOf n (λ j. has (getD barred j 0) i) j l))
 
+  -- the stations that may follow i
   abbrev allowed : ℕ
   allowed = bitAnd (getD next i 0) ((2 ^ 64 - 1) - bars)
 
-  row-inside : i < n → bitAnd (setOf n (λ j. not (eqb i j))) allowed ≡ setOf n (legal next barred i)
-  row-inside l =
+  row-inside : bitAnd (setOf n (λ j. not (eqb i j))) allowed ≡ setOf n (legal next barred i)
+  row-inside =
       let own = setOf n (λ j. not (eqb i j)) in
       eq-setOf n (bitAnd own allowed) (legal next barred i) (omega (arith, and-le-l own allowed, setOf-lt n (λ j. not (eqb i j)))) (λ j k.
       has-and own allowed j
@@ -65,7 +66,7 @@ module _ (n i : ℕ) (next barred : List ℕ) (le : n ≤ 64) (h : i < 64) where
   row-is =
       ⊎-elim
       (λ (l : i < n).
-      ap (λ (w : ℕ). bitAnd w allowed) (row-in n (λ i j. not (eqb i j)) i le l) ∙ row-inside l ∙ sym (cond-true (setOf n (legal next barred i)) 0 (lt-ltb i n l)))
+      ap (λ (w : ℕ). bitAnd w allowed) (row-in n (λ i j. not (eqb i j)) i le l) ∙ row-inside ∙ sym (cond-true (setOf n (legal next barred i)) 0 (lt-ltb i n l)))
       (λ (g : n ≤ i).
       let none : bitAnd 0 allowed ≡ 0 = omega (arith, and-le-l 0 allowed) in
       ap (λ (w : ℕ). bitAnd w allowed) (row-out n (λ i j. not (eqb i j)) i g) ∙ none ∙ sym (cond-false (setOf n (legal next barred i)) 0 (le-ltb i n g)))
@@ -95,9 +96,11 @@ getD-map f [] k l = absurd (not-suc-le-zero l)
 getD-map f (e ∷ es) zero l = refl
 getD-map f (e ∷ es) (suc k) l = getD-map f es k (le-of-suc-le-suc l)
 
+-- a word that the loop stored
 pub mapped-at : (f : Entry → ℕ) (es : List Entry) (l : List ℕ) (n : ℕ) → length es ≡ n → take n l ≡ map f es → (k : ℕ) → k < n → getD l k 0 ≡ f (getD es k free)
-mapped-at f es l n c e k h = sym (getD-take n l k 0 h) ∙ ap (λ (t : List ℕ). getD t k 0) e ∙ getD-map f es k (omega (arith))
+mapped-at f es l n c e k h = sym (getD-take n l k 0 h) ∙ ap (λ (t : List ℕ). getD t k 0) e ∙ getD-map f es k (omega arith)
 
+-- the leg rule, in the order of the code's masks
 regroup : (a b c d : Bool) → a && (b && d && not (not c)) ≡ a && b && c && d
 regroup true b c d = taut3 (λ b c d. b && d && not (not c)) (λ b c d. b && c && d) refl b c d
 regroup false b c d = refl

@@ -1,10 +1,9 @@
 -- What the code's readers answer, held against what the rules read from the same bytes. Only inner contracts cite it.
 use mathlib.Core.Path.{_≡_}
-use mathlib.Core.Bool.{Bool, not, cond, _&&_}
+use mathlib.Core.Bool.{Bool, not, _&&_}
 use mathlib.Core.List.{List}
 use mathlib.Core.Option.{Option}
-use Prim.Native.Nat.{ℕ, _^_, _≤_}
-use lib.Bits.{bitOr}
+use Prim.Native.Nat.{ℕ, _≤_}
 use lib.Dec.{eqb}
 use lib.ListN.{length, getD, drop}
 use Rattle.bitset.specs.Sets.{has, setOf}
@@ -52,7 +51,3 @@ readRest n s = readEntries n n s then λ es r. readEnd (record { stations = n; e
 -- the leg i→j stands, where the words say which stations may follow each station and which may not come before it
 abbrev pub legal : List ℕ → List ℕ → ℕ → ℕ → Bool
 legal next barred i j = not (eqb i j) && (has (getD next i 0) j && not (has (getD barred j 0) i))
-
--- word j with i in it where the row has j
-abbrev pub added : ℕ → ℕ → List ℕ → ℕ → ℕ
-added i row out j = cond (has row j) (bitOr (getD out j 0) (2 ^ i)) (getD out j 0)

@@ -1,13 +1,12 @@
 -- `separator::strike` meets its contract.
 use borrow.Author.Needs.{needs}
 use denote.Ref.{now}
-use mathlib.Core.Path.{_≡_, sym, ap, subst, _∙_}
+use mathlib.Core.Path.{ap, subst, _∙_}
 use mathlib.Core.List.{List}
-use Prim.Native.Nat.{ℕ, _^_, _<_}
+use Prim.Native.Nat.{ℕ}
 use native.Mathlib.Nat.{lt-of-lt-of-le}
 use lib.ListN.{length}
 use lib.Pow.{pow-mono}
-use Rattle.bitset.specs.Upto.{upto}
 use Rattle.bitset.proofs.UptoLaws.{length-upto}
 use Rattle.circuit.specs.Legs.{col}
 use Rattle.circuit.proofs.StateLaws.{stray-row}

@@ -9,9 +9,10 @@ use Rattle.circuit.specs.declared.Answer.the-variants.{Taken}
 use Rattle.circuit.specs.declared.Opened.{Opened}
 use Rattle.circuit.specs.declared.Work.{Work}
 use Rattle.circuit.specs.State.{fresh}
-use Rattle.sheet.specs.declared.Read.the-variants.{Whole}
+use Rattle.sheet.specs.declared.Read.{Read}
+use Rattle.sheet.specs.declared.Read.the-variants.{Whole, Fault}
 use Rattle.sheet.specs.Open.{readEntry}
-use Rattle.sheet.specs.Reader.{FaultAt, IsRecord}
+use Rattle.sheet.specs.Reader.{IsRecord}
 use Rattle.sheet.proofs.ReaderLaws.{rest-of, record-told}
 use Rattle.sheet.proofs.RecordsLaws.{SoFar, so-far-none, so-far-more, so-far-fault, so-far-all, so-far-over, so-far-whole}
 use Rattle.sheet.proofs.open_records.Statement.{statement}
@@ -34,16 +35,19 @@ n c = c .before .before .before .args .n
 abbrev rest : tie.In-loop Inv-loop μ-loop → List ℕ
 rest c = drop (c .before .loop .at) (sheet c)
 
--- the record that the turn reads
-whole : (c : tie.After-known-told Inv-loop μ-loop) → IsRecord (readEntry (n (c .before .before .before .before .before)) (rest (c .before .before .before .before .before))) (rest (c .before .before .before .before .before)) (Whole (c .before .read .given .0 .0))
-whole c =
-    record-told (n (c .before .before .before .before .before)) (rest-of (c .before .before .before .before .before .before .loop .at) (sheet (c .before .before .before .before .before))) (c .before .read .given .1) (c .before .before .before .read-record .ensures)
+-- what the reader answers there
+abbrev Answers : tie.In-loop Inv-loop μ-loop → Read → Type 0
+Answers c r = IsRecord (readEntry (n c) (rest c)) (rest c) r
 
--- or its fault
-broken : (c : tie.After-known-told2 Inv-loop μ-loop)
-    → FaultAt (readEntry (n (c .before .before .before .before .before)) (rest (c .before .before .before .before .before))) (rest (c .before .before .before .before .before)) (c .before .read2 .given .0 .0) (c .before .read2 .given .0 .1 .0)
+whole : (c : tie.After-known-told Inv-loop μ-loop) → Answers (c .before .before .before .before .before) (Whole (c .before .read .given .0 .0))
+whole c =
+    let t = c .before .before .before .before .before in
+    record-told (n t) (rest-of (t .before .loop .at) (sheet t)) (c .before .read .given .1) (c .before .before .before .read-record .ensures)
+
+broken : (c : tie.After-known-told2 Inv-loop μ-loop) → Answers (c .before .before .before .before .before) (Fault (c .before .read2 .given .0 .0) (c .before .read2 .given .0 .1 .0))
 broken c =
-    record-told (n (c .before .before .before .before .before)) (rest-of (c .before .before .before .before .before .before .loop .at) (sheet (c .before .before .before .before .before))) (c .before .read2 .given .1) (c .before .before .before .read-record .ensures)
+    let t = c .before .before .before .before .before in
+    record-told (n t) (rest-of (t .before .loop .at) (sheet t)) (c .before .read2 .given .1) (c .before .before .before .read-record .ensures)
 
 -- ---- the answers
 

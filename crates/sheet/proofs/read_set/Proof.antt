@@ -55,7 +55,8 @@ returns-3 c =
     let a = b .args in
     let v = value (c .before .before) in
     let f = most (c .before) in
-    rw (not-false (a .present) (c .before .before .before .before .before .if1 .left)) (set-stray (a .n) (a .at) (a .part .now) (b .pre .0) (c .before .before .before .before .if2 .left) (omega (arith, c .if3 .taken)))
+    rw (not-false (a .present) (c .before .before .before .before .before .if1 .left))
+    (set-stray (a .n) (a .at) (a .part .now) (b .pre .0) (c .before .before .before .before .if2 .left) (omega (arith, c .if3 .taken)))
 
 add-end : tie.Need-add-end
 add-end c = search needs

@@ -8,6 +8,7 @@ use lib.Bits.{bitAnd}
 use lib.ListN.{length, getD}
 use Rattle.bitset.proofs.UptoLaws.{Changed, changed-none, changed-here, changed-more, changed-all}
 use Rattle.circuit.specs.Legs.{fullTable}
+use Rattle.circuit.proofs.LegsLaws.{capped-small}
 use Rattle.sheet.proofs.TableLaws.{legalRow, legal-rows, row-is}
 use Rattle.sheet.proofs.table_of.Statement.{statement}
 use Rattle.sheet.proofs.table_of.Tie as tie
@@ -64,7 +65,7 @@ loop-again c =
     let i : ℕ = l .i in
     let word : ℕ → List ℕ → ℕ = λ w t. bitAnd w (bitAnd (getD next i 0) ((2 ^ 64 - 1) - getD t i 0)) in
     let own : getD (l .rows) i 0 ≡ getD (fullTable (e .args .n)) i 0 =
-    changed-here 0 (l .inv .1) ∙ ap (λ (t : List ℕ). getD t i 0) (c .before .before .before .before .before .full .ensures) in
+    changed-here 0 (l .inv .1) ∙ ap (λ (t : List ℕ). getD t i 0) (c .before .before .before .before .before .full .ensures ∙ ap fullTable (capped-small (e .args .n) (e .pre))) in
     let below : i < 64 = omega arith in
     let is = ap₂ word own (c .before .before .before .columns .ensures) ∙ row-is (e .args .n) i next (e .args .barred .now) (e .pre) below in
     (omega arith, changed-more _ (l .inv .1) below is)

@@ -1,0 +1,266 @@
+//! Calls under test beside the plain and the fast ones, on made-up sheets: every
+//! answer is compared whole, and what holds of all sequences is tried as well.
+
+mod call;
+mod difference;
+mod draw;
+mod made;
+mod watch;
+
+use std::fmt::Display;
+use std::panic::{catch_unwind, AssertUnwindSafe};
+
+use self::call::{Answer, Call};
+use self::difference::Step;
+use self::made::{Known, Made};
+use self::watch::Watch;
+use crate::calls::{Calls, Fast, Plain};
+use crate::gen::Xorshift;
+use crate::state::{End, WorkState};
+
+pub use self::difference::Difference;
+
+type Found<T> = Result<T, Box<Difference>>;
+
+/// What the comparison has gone through.
+#[derive(Clone, Debug, Default, PartialEq, Eq)]
+pub struct Counts {
+    pub calls: u64,
+    /// Calls that the plain implementation answered too.
+    pub plain: u64,
+    /// Answers by their number on the radio card.
+    pub numbers: [u64; 11],
+    pub rounds_confirmed: u64,
+    pub legs_removed: u64,
+    pub ended_stable: u64,
+    pub ended_none: u64,
+    /// Sequences on a table with a known round.
+    pub watched: u64,
+}
+
+impl Counts {
+    pub fn add(&mut self, other: &Counts) {
+        self.calls += other.calls;
+        self.plain += other.plain;
+        for (sum, count) in self.numbers.iter_mut().zip(&other.numbers) {
+            *sum += count;
+        }
+        self.rounds_confirmed += other.rounds_confirmed;
+        self.legs_removed += other.legs_removed;
+        self.ended_stable += other.ended_stable;
+        self.ended_none += other.ended_none;
+        self.watched += other.watched;
+    }
+
+    fn note(&mut self, answer: &Answer) {
+        self.calls += 1;
+        self.numbers[usize::from(answer.number())] += 1;
+        match answer {
+            Answer::Handled(handled) => self.legs_removed += handled.removed,
+            Answer::Ran(ran) => {
+                self.legs_removed += ran.removed;
+                if ran.steps > 0 {
+                    self.ended_stable += u64::from(ran.state.end == End::Stable);
+                    self.ended_none += u64::from(ran.state.end == End::None);
+                }
+            }
+            Answer::Checked(checked) => self.rounds_confirmed += u64::from(checked.yes),
+            Answer::Opened(_) | Answer::Reported(..) => {}
+        }
+    }
+}
+
+/// Compares on one sheet. Seed and index alone decide on all that is done.
+pub fn compare_sheet(tested: &dyn Calls, seed: u64, index: u64) -> Found<Counts> {
+    let mut rng = Xorshift::new(seed.rotate_left(32) ^ index);
+    let made = Made::new(&mut rng, index);
+    let mut session = Session {
+        tested,
+        rng,
+        made,
+        state: WorkState::BLANK,
+        watch: Watch::nothing(),
+        steps: Vec::new(),
+        counts: Counts::default(),
+    };
+    if session.opening()? {
+        session.sequence()?;
+        session.state_of_no_opening()?;
+    } else {
+        session.each_call()?;
+    }
+    Ok(session.counts)
+}
+
+struct Session<'a> {
+    tested: &'a dyn Calls,
+    rng: Xorshift,
+    made: Made,
+    state: WorkState,
+    watch: Watch,
+    steps: Vec<Step>,
+    counts: Counts,
+}
+
+impl Session<'_> {
+    /// Opens the sheet with a bad and a good limit; is it taken?
+    fn opening(&mut self) -> Found<bool> {
+        let limit = draw::bad_limit(&mut self.rng);
+        self.call(Call::Open { limit })?;
+        let limit = draw::good_limit(&mut self.rng);
+        let answer = self.call(Call::Open { limit })?;
+        self.hold_to_known(&answer)?;
+        let taken = answer.number() == 0;
+        if taken {
+            self.watch = Watch::new(&self.state, self.made.round.as_ref());
+            self.counts.watched += u64::from(!self.watch.rounds.is_empty());
+        }
+        Ok(taken)
+    }
+
+    /// The way a sheet was made may say what opening it gives.
+    fn hold_to_known(&self, answer: &Answer) -> Found<()> {
+        let Answer::Opened(opened) = answer else {
+            return Ok(());
+        };
+        let as_known = match &self.made.known {
+            Known::Nothing => true,
+            Known::Rows(rows) => opened.number == 0 && opened.state.rows == *rows,
+            Known::Refusal { number, place } => {
+                (opened.number, opened.place) == (*number, *place as u64)
+            }
+        };
+        if as_known {
+            return Ok(());
+        }
+        Err(self.difference("the sheet was made to open otherwise", answer))
+    }
+
+    /// Calls in any order, the whole run and more calls on the ended state.
+    fn sequence(&mut self) -> Found<()> {
+        for _ in 0..self.rng.between(4, 9) {
+            match self.rng.below(12) {
+                0 => self.bad_state()?,
+                1 => self.second_try()?,
+                _ => self.any_call()?,
+            }
+        }
+        let budget = u32::MAX;
+        self.call(Call::Run { budget })?;
+        for _ in 0..3 {
+            self.any_call()?;
+        }
+        Ok(())
+    }
+
+    /// A call on the same state as the one before had.
+    fn second_try(&mut self) -> Found<()> {
+        let kept = self.state;
+        self.any_call()?;
+        self.put(kept);
+        self.any_call()
+    }
+
+    /// All calls on a bad state, then back to the good one.
+    fn bad_state(&mut self) -> Found<()> {
+        let kept = self.state;
+        let spoilt = draw::spoilt(&mut self.rng, &kept);
+        self.put(spoilt);
+        self.each_call()?;
+        self.put(kept);
+        Ok(())
+    }
+
+    /// A good state in which place, mark and end do not come from calls, so
+    /// that nothing is claimed of the rounds.
+    fn state_of_no_opening(&mut self) -> Found<()> {
+        if !self.rng.percent(40) {
+            return Ok(());
+        }
+        self.watch = Watch::nothing();
+        self.call(Call::Open { limit: 64 })?;
+        let moved = draw::moved(&mut self.rng, &self.state);
+        self.put(moved);
+        for _ in 0..4 {
+            self.any_call()?;
+        }
+        Ok(())
+    }
+
+    fn any_call(&mut self) -> Found<()> {
+        let call = draw::call(&mut self.rng, &self.state, &self.watch.rounds);
+        self.call(call)?;
+        Ok(())
+    }
+
+    fn each_call(&mut self) -> Found<()> {
+        for call in draw::each_call(&mut self.rng, &self.state, &self.watch.rounds) {
+            self.call(call)?;
+        }
+        Ok(())
+    }
+
+    fn put(&mut self, state: WorkState) {
+        self.steps.push(Step::Put(Box::new(state)));
+        self.state = state;
+    }
+
+    /// Makes a call and goes on from the state it hands back.
+    fn call(&mut self, call: Call) -> Found<Answer> {
+        let with_plain = self.plain_takes_part(&call);
+        self.steps.push(Step::Call(call.clone()));
+        let answer = self.answer_under_test(&call)?;
+        if answer != self.make(&call, &Fast) {
+            return Err(self.difference("the fast answer differs", &answer));
+        }
+        if with_plain && answer != self.make(&call, &Plain) {
+            return Err(self.difference("the plain answer differs", &answer));
+        }
+        if let Some(state) = answer.state() {
+            if let Some(fault) = self.watch.fault(state) {
+                return Err(self.difference(fault, &answer));
+            }
+            self.state = *state;
+        }
+        self.counts.note(&answer);
+        self.counts.plain += u64::from(with_plain);
+        Ok(answer)
+    }
+
+    fn make(&self, call: &Call, calls: &dyn Calls) -> Answer {
+        call.make(calls, &self.made.bytes, &self.state)
+    }
+
+    /// Plain calls on many stations take long, so not all of them are made.
+    fn plain_takes_part(&mut self, call: &Call) -> bool {
+        let chance = match (call, self.state.n) {
+            (Call::Open { .. }, _) | (_, 0..=12) => 100,
+            (Call::Run { .. }, 13..=24) => 20,
+            (Call::Run { budget: 5.. }, 25..=64) => 0,
+            (_, 13..=24) => 60,
+            _ => 20,
+        };
+        self.rng.percent(chance)
+    }
+
+    /// A panic is a difference like any other.
+    fn answer_under_test(&self, call: &Call) -> Found<Answer> {
+        catch_unwind(AssertUnwindSafe(|| self.make(call, self.tested)))
+            .map_err(|_| self.difference("the tested call panicked", &"panic"))
+    }
+
+    /// Tells of the last call, with the answers that it gets elsewhere.
+    fn difference(&self, reason: &'static str, answer: &dyn Display) -> Box<Difference> {
+        let mut answers = vec![("tested", answer.to_string())];
+        if let Some(Step::Call(call)) = self.steps.last() {
+            answers.push(("fast", self.make(call, &Fast).to_string()));
+            answers.push(("plain", self.make(call, &Plain).to_string()));
+        }
+        Box::new(Difference {
+            sheet: self.made.bytes.clone(),
+            steps: self.steps.clone(),
+            reason,
+            answers,
+        })
+    }
+}

@@ -1,0 +1,110 @@
+//! One call as a value, and its complete answer.
+
+use std::fmt;
+
+use crate::calls::Calls;
+use crate::card::Number;
+use crate::hand::Handled;
+use crate::lines::Reported;
+use crate::list::Checked;
+use crate::run::Ran;
+use crate::sheet::Opened;
+use crate::state::WorkState;
+
+#[derive(Clone, Debug)]
+pub enum Call {
+    Open { limit: u64 },
+    Sweep,
+    Pass { seed: u64 },
+    Run { budget: u32 },
+    List { numbers: Vec<u8> },
+    Report { length: usize },
+}
+
+/// All that a call hands back or writes.
+#[derive(Clone, Debug, PartialEq, Eq)]
+pub enum Answer {
+    Opened(Opened),
+    Handled(Handled),
+    Ran(Ran),
+    Checked(Checked),
+    Reported(Reported, Vec<u8>),
+}
+
+impl Call {
+    /// Makes the call on a state; an opening takes the sheet instead.
+    pub fn make(&self, calls: &dyn Calls, sheet: &[u8], state: &WorkState) -> Answer {
+        match self {
+            Call::Open { limit } => Answer::Opened(calls.open(sheet, *limit)),
+            Call::Sweep => Answer::Handled(calls.sweep(*state)),
+            Call::Pass { seed } => Answer::Handled(calls.pass(*state, *seed)),
+            Call::Run { budget } => Answer::Ran(calls.run(*state, *budget)),
+            Call::List { numbers } => Answer::Checked(calls.list_check(state, numbers)),
+            Call::Report { length } => {
+                let mut buffer = filled_buffer(*length);
+                let reported = calls.report(state, &mut buffer);
+                Answer::Reported(reported, buffer)
+            }
+        }
+    }
+}
+
+/// Bytes that differ from their neighbours and stand in no text.
+fn filled_buffer(length: usize) -> Vec<u8> {
+    (0..length).map(|at| 128 + (at % 127) as u8).collect()
+}
+
+impl Answer {
+    pub fn number(&self) -> Number {
+        match self {
+            Answer::Opened(opened) => opened.number,
+            Answer::Handled(handled) => handled.number,
+            Answer::Ran(ran) => ran.number,
+            Answer::Checked(checked) => checked.number,
+            Answer::Reported(reported, _) => reported.number,
+        }
+    }
+
+    /// The work state handed back, for calls that hand one back.
+    pub fn state(&self) -> Option<&WorkState> {
+        match self {
+            Answer::Opened(opened) => Some(&opened.state),
+            Answer::Handled(handled) => Some(&handled.state),
+            Answer::Ran(ran) => Some(&ran.state),
+            Answer::Checked(_) | Answer::Reported(..) => None,
+        }
+    }
+}
+
+impl fmt::Display for Call {
+    fn fmt(&self, out: &mut fmt::Formatter) -> fmt::Result {
+        match self {
+            Call::Open { limit } => write!(out, "open with limit {limit}"),
+            Call::Sweep => write!(out, "sweep"),
+            Call::Pass { seed } => write!(out, "pass with seed {seed}"),
+            Call::Run { budget } => write!(out, "run with budget {budget}"),
+            Call::List { numbers } => write!(out, "list check of {numbers:?}"),
+            Call::Report { length } => write!(out, "report into {length} bytes"),
+        }
+    }
+}
+
+impl fmt::Display for Answer {
+    fn fmt(&self, out: &mut fmt::Formatter) -> fmt::Result {
+        write!(out, "{}", self.number())?;
+        match self {
+            Answer::Opened(opened) => write!(out, " at {}", opened.place)?,
+            Answer::Handled(handled) => write!(out, " removed {}", handled.removed)?,
+            Answer::Ran(ran) => write!(out, " steps {} removed {}", ran.steps, ran.removed)?,
+            Answer::Checked(checked) => write!(out, " yes {}", checked.yes)?,
+            Answer::Reported(reported, buffer) => {
+                let (length, bytes) = (reported.length, buffer.escape_ascii());
+                write!(out, " length {length} buffer \"{bytes}\"")?;
+            }
+        }
+        match self.state() {
+            Some(state) => write!(out, " state {state}"),
+            None => Ok(()),
+        }
+    }
+}

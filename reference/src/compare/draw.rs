@@ -1,0 +1,168 @@
+//! Random arguments: mostly sound ones, and every kind of unsound one.
+
+use super::call::Call;
+use super::made::random_round;
+use crate::fast;
+use crate::gen::{Xorshift, WIDE_NUMBERS};
+use crate::state::{End, WorkState};
+
+/// The lines of the full table of 64 stations are shorter.
+const LONGEST_TEXT: usize = 16_384;
+
+pub fn good_limit(rng: &mut Xorshift) -> u64 {
+    match rng.below(10) {
+        0..=4 => 64,
+        5..=7 => rng.between(1, 4) as u64,
+        _ => rng.between(1, 64) as u64,
+    }
+}
+
+pub fn bad_limit(rng: &mut Xorshift) -> u64 {
+    match rng.below(3) {
+        0 => 0,
+        1 => 65,
+        _ => rng.pick(&WIDE_NUMBERS),
+    }
+}
+
+/// A call on a state. The known rounds are rounds of its table or of an earlier
+/// one.
+pub fn call(rng: &mut Xorshift, state: &WorkState, rounds: &[Vec<usize>]) -> Call {
+    match rng.below(20) {
+        0..=2 => Call::Sweep,
+        3..=9 => pass(rng, state),
+        10..=13 => run(rng, state),
+        14..=16 => list(rng, state, rounds),
+        _ => report(rng, state),
+    }
+}
+
+/// One call of each kind.
+pub fn each_call(rng: &mut Xorshift, state: &WorkState, rounds: &[Vec<usize>]) -> [Call; 5] {
+    [
+        Call::Sweep,
+        pass(rng, state),
+        run(rng, state),
+        list(rng, state, rounds),
+        report(rng, state),
+    ]
+}
+
+/// The stations of a state, or any number of them if it is bad.
+fn stations(state: &WorkState) -> usize {
+    state.n.clamp(2, 64) as usize
+}
+
+fn pass(rng: &mut Xorshift, state: &WorkState) -> Call {
+    let n = stations(state);
+    let seed = match rng.below(20) {
+        0 => 0,
+        1 => n as u64 + 1,
+        2 => rng.pick(&WIDE_NUMBERS),
+        _ => rng.between(1, n) as u64,
+    };
+    Call::Pass { seed }
+}
+
+fn run(rng: &mut Xorshift, state: &WorkState) -> Call {
+    let budget = match rng.below(10) {
+        0 => 0,
+        1..=3 => rng.between(1, 3) as u32,
+        4..=6 => rng.below(2 * stations(state) + 3) as u32,
+        7 => 300_000,
+        _ => u32::MAX,
+    };
+    Call::Run { budget }
+}
+
+/// A round, one of the table or any, whole or with a fault.
+fn list(rng: &mut Xorshift, state: &WorkState, rounds: &[Vec<usize>]) -> Call {
+    let n = stations(state);
+    let round = if rounds.is_empty() || rng.percent(20) {
+        random_round(rng, n)
+    } else {
+        rounds[rng.below(rounds.len())].clone()
+    };
+    let mut numbers: Vec<u8> = round.into_iter().map(|next| next as u8).collect();
+    // A refused state may have another number of stations.
+    numbers.resize(n, 1);
+    match rng.below(10) {
+        0..=3 => {}
+        // Two circuits instead of one, or a station that follows itself.
+        4 | 5 => {
+            let (one, other) = (rng.below(n), rng.below(n));
+            numbers.swap(one, other);
+        }
+        6 => numbers[rng.below(n)] = rng.between(1, n) as u8,
+        7 => numbers[rng.below(n)] = rng.pick(&[0, n as u8 + 1, 128, 255]),
+        8 => numbers = standing_legs(rng, state),
+        _ => numbers.resize(rng.pick(&[0, 1, n - 1, n + 1, 300]), 1),
+    }
+    Call::List { numbers }
+}
+
+/// A standing leg from every station that has one, mostly no round.
+fn standing_legs(rng: &mut Xorshift, state: &WorkState) -> Vec<u8> {
+    let rows = &state.rows[..stations(state)];
+    rows.iter()
+        .map(|row| {
+            let turned = rng.below(64) as u32;
+            let first = row.rotate_right(turned).trailing_zeros() + turned;
+            (first % 64) as u8 + 1
+        })
+        .collect()
+}
+
+fn report(rng: &mut Xorshift, state: &WorkState) -> Call {
+    // A bad state has no text, and any length will do.
+    let text = match fast::report(state, &mut [0; LONGEST_TEXT]).length as usize {
+        0 => 60,
+        length => length,
+    };
+    let length = match rng.below(6) {
+        0 => text,
+        1 => text - 1,
+        2 => text + 1,
+        3 => 0,
+        4 => text + rng.pick(&[2, 64, LONGEST_TEXT]),
+        _ => rng.below(2 * text),
+    };
+    Call::Report { length }
+}
+
+/// Breaks one clause of a good state.
+pub fn spoilt(rng: &mut Xorshift, state: &WorkState) -> WorkState {
+    let n = state.n as usize;
+    let mut spoilt = *state;
+    match rng.below(6) {
+        0 => spoilt.n = wrong_number(rng, &[0, 1, 65, state.n + (1 << 32)]),
+        1 => spoilt.limit = wrong_number(rng, &[0, 65, 64 + (1 << 32)]),
+        2 => spoilt.place = wrong_number(rng, &[state.n + 1, 65, 1 << 32]),
+        3 if n < 64 => spoilt.rows[rng.between(n, 63)] |= 1 << rng.below(n),
+        4 if n < 64 => spoilt.rows[rng.below(n)] |= 1 << rng.between(n, 63),
+        _ => {
+            let own = rng.below(n);
+            spoilt.rows[own] |= 1 << own;
+        }
+    }
+    spoilt
+}
+
+/// One of the numbers next to the sound ones, or a wide one.
+fn wrong_number(rng: &mut Xorshift, near: &[u64]) -> u64 {
+    if rng.percent(70) {
+        rng.pick(near)
+    } else {
+        rng.pick(&WIDE_NUMBERS)
+    }
+}
+
+/// The same table at any place, with any mark and end.
+pub fn moved(rng: &mut Xorshift, state: &WorkState) -> WorkState {
+    WorkState {
+        place: rng.below(state.n as usize + 1) as u64,
+        mark: rng.percent(50),
+        end: rng.pick(&[End::Open, End::Open, End::Stable, End::None]),
+        ..*state
+    }
+}

@@ -1,0 +1,144 @@
+//! The sheets to compare on, with what is known of them beforehand.
+
+use crate::card::Number;
+use crate::gen::{damaged, random, Family, Sheet, Xorshift};
+use crate::state::Rows;
+use crate::table::{Leg, LegTable};
+
+pub struct Made {
+    pub bytes: Vec<u8>,
+    pub known: Known,
+    /// A round that was put into the table: entry i−1 follows station i.
+    pub round: Option<Vec<usize>>,
+}
+
+/// What opening the sheet must give.
+pub enum Known {
+    Nothing,
+    Rows(Rows),
+    Refusal { number: Number, place: usize },
+}
+
+impl Made {
+    /// Every fourth sheet is damaged, with each number in turn.
+    pub fn new(rng: &mut Xorshift, index: u64) -> Made {
+        match index % 4 {
+            3 => damaged_sheet(rng, 1 + (index / 4 % 5) as Number),
+            _ if rng.percent(10) => random_sheet(rng),
+            _ => sheet_of_table(rng),
+        }
+    }
+}
+
+/// Small tables have the most surprises; large ones reach the last bits.
+fn size(rng: &mut Xorshift) -> usize {
+    match rng.below(20) {
+        0..=10 => rng.between(2, 8),
+        11..=15 => rng.between(9, 24),
+        16..=18 => rng.between(25, 64),
+        _ => rng.pick(&[31, 32, 33, 63, 64]),
+    }
+}
+
+fn random_sheet(rng: &mut Xorshift) -> Made {
+    let n = size(rng);
+    Made {
+        bytes: Sheet::random(rng, n).bytes(),
+        known: Known::Nothing,
+        round: None,
+    }
+}
+
+fn sheet_of_table(rng: &mut Xorshift) -> Made {
+    let n = size(rng);
+    let mut table = any_table(rng, n);
+    let round = rng.percent(40).then(|| plant_round(rng, &mut table));
+    if let Some(round) = round.as_ref().filter(|_| rng.percent(30)) {
+        decide_stations(rng, &mut table, round);
+    }
+    let sheet = match rng.below(4) {
+        0 => Sheet::of(&table),
+        1 => Sheet::of_by_previous(&table),
+        _ => Sheet::mixed(rng, &table),
+    };
+    Made {
+        bytes: sheet.bytes(),
+        known: Known::Rows(table.rows()),
+        round,
+    }
+}
+
+fn any_table(rng: &mut Xorshift, n: usize) -> LegTable {
+    match rng.below(Family::ALL.len() + 1) {
+        0 => {
+            let density = rng.between(2, 98);
+            random(rng, n, density)
+        }
+        at => Family::ALL[at - 1].table(rng, n),
+    }
+}
+
+/// Adds the legs of a random round.
+fn plant_round(rng: &mut Xorshift, table: &mut LegTable) -> Vec<usize> {
+    let round = random_round(rng, table.n());
+    for (at, &next) in round.iter().enumerate() {
+        table.add(at + 1, next);
+    }
+    round
+}
+
+/// A round of the full table.
+pub fn random_round(rng: &mut Xorshift, n: usize) -> Vec<usize> {
+    let order = rng.order(n);
+    let mut round = vec![0; n];
+    for (at, &station) in order.iter().enumerate() {
+        round[station - 1] = order[(at + 1) % n];
+    }
+    round
+}
+
+/// Leaves some stations with their leg of the round alone.
+fn decide_stations(rng: &mut Xorshift, table: &mut LegTable, round: &[usize]) {
+    let decided = rng.pick(&[10, 30, 70]);
+    for (at, &next) in round.iter().enumerate() {
+        if rng.percent(decided) {
+            let others = table.successors(at + 1).iter().filter(|&&j| j != next);
+            let others: Vec<Leg> = others.map(|&j| (at + 1, j)).collect();
+            table.strike(&others);
+        }
+    }
+}
+
+fn damaged_sheet(rng: &mut Xorshift, number: Number) -> Made {
+    if rng.percent(5) {
+        return noise(rng);
+    }
+    let n = size(rng);
+    let sheet = Sheet::random(rng, n);
+    let mut damaged = damaged(rng, &sheet, number);
+    let mut known = Known::Refusal {
+        number: damaged.number,
+        place: damaged.place,
+    };
+    // A second fault, for the order of the checks.
+    if rng.percent(25) && !damaged.bytes.is_empty() {
+        let at = rng.below(damaged.bytes.len());
+        damaged.bytes[at] ^= 1 << rng.below(8);
+        known = Known::Nothing;
+    }
+    Made {
+        bytes: damaged.bytes,
+        known,
+        round: None,
+    }
+}
+
+/// Bytes without any form.
+fn noise(rng: &mut Xorshift) -> Made {
+    let bytes = (0..rng.below(40)).map(|_| rng.below(256) as u8);
+    Made {
+        bytes: bytes.collect(),
+        known: Known::Nothing,
+        round: None,
+    }
+}

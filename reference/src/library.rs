@@ -1,0 +1,188 @@
+//! The proved library, called over its C interface.
+
+use crate::calls::Calls;
+use crate::card::{self, Number};
+use crate::hand::Handled;
+use crate::lines::Reported;
+use crate::list::Checked;
+use crate::run::Ran;
+use crate::sheet::Opened;
+use crate::state::WorkState;
+use crate::words::{from_words, to_words, Words, STATE_WORDS};
+
+/// What a call answers when the words lent to it are too few for a state.
+pub const NO_STATE: u32 = 100;
+
+// Limits and seeds reach the library as `usize`, and none may be cut short.
+const _: () = assert!(usize::BITS == u64::BITS);
+
+/// The functions of the archive. A slice is passed as pointer and length.
+mod ffi {
+    extern "C" {
+        pub fn loungeegret_open(
+            sheet: *const u8,
+            sheet_len: usize,
+            limit: usize,
+            state: *mut u64,
+            state_len: usize,
+            place: *mut usize,
+        ) -> u32;
+        pub fn loungeegret_sweep(state: *mut u64, state_len: usize, removed: *mut u32) -> u32;
+        pub fn loungeegret_pass(
+            state: *mut u64,
+            state_len: usize,
+            seed: usize,
+            removed: *mut u32,
+        ) -> u32;
+        pub fn loungeegret_run(
+            state: *mut u64,
+            state_len: usize,
+            budget: u32,
+            steps: *mut u32,
+            removed: *mut u32,
+        ) -> u32;
+        pub fn loungeegret_check_list(
+            state: *const u64,
+            state_len: usize,
+            list: *const u8,
+            list_len: usize,
+            yes: *mut u8,
+        ) -> u32;
+        pub fn loungeegret_report(
+            state: *const u64,
+            state_len: usize,
+            buf: *mut u8,
+            buf_len: usize,
+            length: *mut usize,
+        ) -> u32;
+    }
+}
+
+/// The same functions over slices. The words of a state may be any and of any
+/// number.
+pub mod raw {
+    use super::ffi;
+
+    // SAFETY of every call here: each pointer comes from a reference that lives
+    // as long as the call, with the length of its own slice, and what the
+    // library writes is borrowed mutably.
+
+    pub fn open(sheet: &[u8], limit: usize, state: &mut [u64], place: &mut usize) -> u32 {
+        let (bytes, words) = (sheet.as_ptr(), state.as_mut_ptr());
+        unsafe { ffi::loungeegret_open(bytes, sheet.len(), limit, words, state.len(), place) }
+    }
+
+    pub fn sweep(state: &mut [u64], removed: &mut u32) -> u32 {
+        unsafe { ffi::loungeegret_sweep(state.as_mut_ptr(), state.len(), removed) }
+    }
+
+    pub fn pass(state: &mut [u64], seed: usize, removed: &mut u32) -> u32 {
+        unsafe { ffi::loungeegret_pass(state.as_mut_ptr(), state.len(), seed, removed) }
+    }
+
+    pub fn run(state: &mut [u64], budget: u32, steps: &mut u32, removed: &mut u32) -> u32 {
+        unsafe { ffi::loungeegret_run(state.as_mut_ptr(), state.len(), budget, steps, removed) }
+    }
+
+    pub fn check_list(state: &[u64], list: &[u8], yes: &mut u8) -> u32 {
+        let (words, numbers) = (state.as_ptr(), list.as_ptr());
+        unsafe { ffi::loungeegret_check_list(words, state.len(), numbers, list.len(), yes) }
+    }
+
+    pub fn report(state: &[u64], buffer: &mut [u8], length: &mut usize) -> u32 {
+        let (words, bytes) = (state.as_ptr(), buffer.as_mut_ptr());
+        unsafe { ffi::loungeegret_report(words, state.len(), bytes, buffer.len(), length) }
+    }
+}
+
+/// The calls of the proved library. What a call has to write holds a value
+/// before that no call gives, so that an answer left unwritten shows.
+pub struct Library;
+
+impl Calls for Library {
+    fn open(&self, sheet: &[u8], limit: u64) -> Opened {
+        let mut words = [u64::MAX; STATE_WORDS];
+        let mut place = usize::MAX;
+        let answer = raw::open(sheet, limit as usize, &mut words, &mut place);
+        Opened {
+            number: number(answer),
+            place: place as u64,
+            state: handed_back(&words),
+        }
+    }
+
+    fn sweep(&self, state: WorkState) -> Handled {
+        let mut words = to_words(&state);
+        let mut removed = u32::MAX;
+        let answer = raw::sweep(&mut words, &mut removed);
+        Handled {
+            number: number(answer),
+            state: handed_back(&words),
+            removed: u64::from(removed),
+        }
+    }
+
+    fn pass(&self, state: WorkState, seed: u64) -> Handled {
+        let mut words = to_words(&state);
+        let mut removed = u32::MAX;
+        let answer = raw::pass(&mut words, seed as usize, &mut removed);
+        Handled {
+            number: number(answer),
+            state: handed_back(&words),
+            removed: u64::from(removed),
+        }
+    }
+
+    fn run(&self, state: WorkState, budget: u32) -> Ran {
+        let mut words = to_words(&state);
+        let (mut steps, mut removed) = (u32::MAX, u32::MAX);
+        let answer = raw::run(&mut words, budget, &mut steps, &mut removed);
+        Ran {
+            number: number(answer),
+            state: handed_back(&words),
+            steps,
+            removed: u64::from(removed),
+        }
+    }
+
+    fn list_check(&self, state: &WorkState, numbers: &[u8]) -> Checked {
+        let mut yes = u8::MAX;
+        let answer = raw::check_list(&to_words(state), numbers, &mut yes);
+        Checked {
+            number: number(answer),
+            yes: truth(yes),
+        }
+    }
+
+    fn report(&self, state: &WorkState, buffer: &mut [u8]) -> Reported {
+        let mut length = usize::MAX;
+        let answer = raw::report(&to_words(state), buffer, &mut length);
+        Reported {
+            number: number(answer),
+            length: length as u64,
+        }
+    }
+
+    /// The library has no call of its own for this; a sweep is refused just on
+    /// a bad state.
+    fn bad(&self, state: &WorkState) -> bool {
+        self.sweep(*state).number == card::BAD_WORK_STATE
+    }
+}
+
+fn number(answer: u32) -> Number {
+    assert!(answer != NO_STATE, "a state of {STATE_WORDS} words is whole");
+    Number::try_from(answer).expect("a number of the radio card")
+}
+
+fn handed_back(words: &Words) -> WorkState {
+    from_words(words).expect("a mark of 0 or 1 and an end of 0 to 2")
+}
+
+fn truth(yes: u8) -> bool {
+    assert!(yes <= 1, "yes is 1 and no is 0");
+    yes == 1
+}
+
+#[cfg(test)]
+mod tests;

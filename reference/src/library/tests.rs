@@ -1,0 +1,143 @@
+//! What the C interface promises beyond the calls themselves: states of too few
+//! or too many words, and marks and ends that are none.
+
+use super::{raw, NO_STATE};
+use crate::card;
+use crate::gen::ring;
+use crate::paper::NINE_LEGS;
+use crate::state::WorkState;
+use crate::words::{to_words, Words, END, MARK, STATE_WORDS};
+
+/// What a call may write, filled with values that no call gives.
+#[derive(Clone, Debug, PartialEq, Eq)]
+struct Written {
+    state: Vec<u64>,
+    place: usize,
+    removed: u32,
+    steps: u32,
+    yes: u8,
+    buffer: [u8; 40],
+    length: usize,
+}
+
+impl Written {
+    fn before(state: Vec<u64>) -> Written {
+        Written {
+            state,
+            place: 901,
+            removed: 902,
+            steps: 903,
+            yes: 94,
+            buffer: [b'.'; 40],
+            length: 905,
+        }
+    }
+}
+
+type RawCall = fn(&mut Written) -> u32;
+
+fn open(to: &mut Written) -> u32 {
+    raw::open(&NINE_LEGS, 64, &mut to.state, &mut to.place)
+}
+
+fn sweep(to: &mut Written) -> u32 {
+    raw::sweep(&mut to.state, &mut to.removed)
+}
+
+fn pass(to: &mut Written) -> u32 {
+    raw::pass(&mut to.state, 4, &mut to.removed)
+}
+
+fn run(to: &mut Written) -> u32 {
+    raw::run(&mut to.state, 9, &mut to.steps, &mut to.removed)
+}
+
+fn check_list(to: &mut Written) -> u32 {
+    raw::check_list(&to.state, &[2, 3, 4, 5, 6, 1], &mut to.yes)
+}
+
+fn report(to: &mut Written) -> u32 {
+    raw::report(&to.state, &mut to.buffer, &mut to.length)
+}
+
+const ON_A_STATE: [RawCall; 5] = [sweep, pass, run, check_list, report];
+
+fn nine_legs() -> Words {
+    to_words(&crate::sheet::open(&NINE_LEGS, 64).state)
+}
+
+#[test]
+fn too_few_words_are_refused_and_nothing_is_written() {
+    for length in 0..STATE_WORDS {
+        let before = Written::before(nine_legs()[..length].to_vec());
+        for call in ON_A_STATE.into_iter().chain([open as RawCall]) {
+            let mut after = before.clone();
+            assert_eq!(call(&mut after), NO_STATE);
+            assert_eq!(after, before);
+        }
+    }
+}
+
+#[test]
+fn words_after_the_state_keep_their_contents() {
+    let beyond: Vec<u64> = (1..=8).map(|k| u64::MAX / k).collect();
+    for call in ON_A_STATE.into_iter().chain([open as RawCall]) {
+        let mut exact = Written::before(nine_legs().to_vec());
+        let mut longer = Written::before([&nine_legs()[..], &beyond].concat());
+        assert_eq!(call(&mut exact), card::TAKEN.into());
+        assert_eq!(call(&mut longer), card::TAKEN.into());
+        assert_eq!(longer.state[STATE_WORDS..], beyond);
+        longer.state.truncate(STATE_WORDS);
+        assert_eq!(longer, exact);
+    }
+}
+
+#[test]
+fn a_refused_opening_writes_the_blank_state() {
+    let mut to = Written::before(vec![u64::MAX; STATE_WORDS + 1]);
+    let number = raw::open(&[0x03, 0x0C], 64, &mut to.state, &mut to.place);
+    assert_eq!((number, to.place), (card::UNKNOWN_BIT.into(), 1));
+    assert_eq!(to.state[..STATE_WORDS], to_words(&WorkState::BLANK));
+    assert_eq!(to.state[STATE_WORDS], u64::MAX);
+}
+
+/// What each call writes when it refuses a state.
+fn refused(before: &Written) -> [Written; 5] {
+    let removed = 0;
+    let by_hand = Written {
+        removed,
+        ..before.clone()
+    };
+    let ran = Written {
+        steps: 0,
+        ..by_hand.clone()
+    };
+    let checked = Written {
+        yes: 0,
+        ..before.clone()
+    };
+    let reported = Written {
+        length: 0,
+        ..before.clone()
+    };
+    [by_hand.clone(), by_hand, ran, checked, reported]
+}
+
+#[test]
+fn a_mark_or_end_that_is_none_is_a_bad_state() {
+    let ring = to_words(&WorkState::opened(&ring(6), 64));
+    let wide = [1 << 32, (1 << 32) + 1, 1 << 63, u64::MAX];
+    let marks = [2, 3, 256].into_iter().chain(wide).map(|mark| (MARK, mark));
+    let ends = [3, 4, 256].into_iter().chain(wide).map(|end| (END, end));
+    for (at, word) in marks.chain(ends) {
+        for good in [nine_legs(), ring] {
+            let mut before = Written::before(good.to_vec());
+            before.state[at] = word;
+            for (call, expected) in ON_A_STATE.into_iter().zip(refused(&before)) {
+                let mut after = before.clone();
+                assert_eq!(call(&mut after), card::BAD_WORK_STATE.into());
+                assert_eq!(after, expected);
+            }
+        }
+    }
+}

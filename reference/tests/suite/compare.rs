@@ -1,0 +1,137 @@
+//! The comparison finds nothing where nothing is wrong, and finds what is.
+
+use reference::compare::{compare_sheet, Counts};
+use reference::gen::{any_table, Sheet, Xorshift};
+use reference::hand::Handled;
+use reference::lines::Reported;
+use reference::list::Checked;
+use reference::run::Ran;
+use reference::sheet::Opened;
+use reference::{open, Calls, End, Fast, WorkState};
+
+#[test]
+fn fast_calls_differ_nowhere() {
+    let mut counts = Counts::default();
+    for index in 0..1_000 {
+        match compare_sheet(&Fast, 3, index) {
+            Ok(more) => counts.add(&more),
+            Err(difference) => panic!("sheet {index}\n{difference}"),
+        }
+    }
+    assert!(counts.numbers.iter().all(|&count| count > 10));
+    assert!(counts.plain > 5_000 && counts.watched > 100);
+    assert!(counts.rounds_confirmed > 100 && counts.legs_removed > 1_000);
+    assert!(counts.ended_stable > 100 && counts.ended_none > 100);
+}
+
+#[test]
+fn the_same_sheet_gives_the_same_calls() {
+    for index in 0..40 {
+        let (first, second) = (compare_sheet(&Fast, 9, index), compare_sheet(&Fast, 9, index));
+        assert_eq!(first.ok(), second.ok());
+    }
+}
+
+#[test]
+fn mixed_sheets_give_their_table() {
+    let mut rng = Xorshift::new(31);
+    for _ in 0..500 {
+        let n = rng.between(2, 64);
+        let table = any_table(&mut rng, n);
+        let opened = open(&Sheet::mixed(&mut rng, &table).bytes(), 64);
+        assert_eq!((opened.number, opened.state.rows), (0, table.rows()));
+    }
+}
+
+/// Faults that a comparison has to find.
+#[derive(Clone, Copy, Debug)]
+enum Fault {
+    PlaceOfRefusal,
+    RemovalCount,
+    LimitIgnored,
+    StopsEarly,
+    MarkForgotten,
+    CircuitsAsRounds,
+    WritesBehindText,
+    PlaceUnchecked,
+    Panics,
+}
+
+const FAULTS: [Fault; 9] = [
+    Fault::PlaceOfRefusal,
+    Fault::RemovalCount,
+    Fault::LimitIgnored,
+    Fault::StopsEarly,
+    Fault::MarkForgotten,
+    Fault::CircuitsAsRounds,
+    Fault::WritesBehindText,
+    Fault::PlaceUnchecked,
+    Fault::Panics,
+];
+
+/// The fast calls with one fault.
+struct Faulty(Fault);
+
+impl Calls for Faulty {
+    fn open(&self, sheet: &[u8], limit: u64) -> Opened {
+        let mut opened = Fast.open(sheet, limit);
+        if matches!(self.0, Fault::PlaceOfRefusal) && opened.number == 5 {
+            opened.place += 1;
+        }
+        opened
+    }
+
+    fn sweep(&self, state: WorkState) -> Handled {
+        let mut swept = Fast.sweep(state);
+        if matches!(self.0, Fault::RemovalCount) {
+            swept.removed = swept.removed.min(2);
+        }
+        assert!(!matches!(self.0, Fault::Panics) || swept.state.end == state.end);
+        swept
+    }
+
+    fn pass(&self, state: WorkState, seed: u64) -> Handled {
+        if matches!(self.0, Fault::LimitIgnored) && state.limit < 64 && !Fast.bad(&state) {
+            let mut passed = Fast.pass(WorkState { limit: 64, ..state }, seed);
+            passed.state.limit = state.limit;
+            return passed;
+        }
+        Fast.pass(state, seed)
+    }
+
+    fn run(&self, state: WorkState, budget: u32) -> Ran {
+        let budget = match self.0 {
+            Fault::StopsEarly => budget.min(20),
+            _ => budget,
+        };
+        let mut ran = Fast.run(state, budget);
+        if matches!(self.0, Fault::MarkForgotten) && ran.state.end == End::Open {
+            ran.state.mark = false;
+        }
+        ran
+    }
+
+    fn list_check(&self, state: &WorkState, numbers: &[u8]) -> Checked {
+        let mut checked = Fast.list_check(state, numbers);
+        if matches!(self.0, Fault::CircuitsAsRounds) && checked.number == 0 {
+            let stands = |(row, &next): (&u64, &u8)| {
+                (1..=64).contains(&next) && row >> (next - 1) & 1 == 1
+            };
+            checked.yes = state.rows.iter().zip(numbers).all(stands);
+        }
+        checked
+    }
+
+    fn report(&self, state: &WorkState, buffer: &mut [u8]) -> Reported {
+        let reported = Fast.report(state, buffer);
+        let end = reported.length as usize;
+        if matches!(self.0, Fault::WritesBehindText) && end > 0 && end < buffer.len() {
+            buffer[end] = 0;
+        }
+        reported
+    }
+
+    fn bad(&self, state: &WorkState) -> bool {
+        Fast.bad(state)
+    }
+}
