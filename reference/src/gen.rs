@@ -133,6 +133,25 @@ pub fn ring(n: usize) -> LegTable {
     LegTable::from_legs(n, (1..=n).map(|i| (i, i % n + 1)))
 }
 
+/// Adds the legs of a random round and says which: entry i−1 follows station i.
+pub fn plant_round(rng: &mut Xorshift, table: &mut LegTable) -> Vec<usize> {
+    let round = random_round(rng, table.n());
+    for (at, &next) in round.iter().enumerate() {
+        table.add(at + 1, next);
+    }
+    round
+}
+
+/// A round of the full table.
+pub fn random_round(rng: &mut Xorshift, n: usize) -> Vec<usize> {
+    let order = rng.order(n);
+    let mut round = vec![0; n];
+    for (at, &station) in order.iter().enumerate() {
+        round[station - 1] = order[(at + 1) % n];
+    }
+    round
+}
+
 /// The table with both directions of each given road.
 pub fn two_way(n: usize, roads: &[(usize, usize)]) -> LegTable {
     LegTable::from_legs(n, roads.iter().flat_map(|&(i, j)| [(i, j), (j, i)]))

@@ -171,7 +171,10 @@ impl Calls for Library {
 }
 
 fn number(answer: u32) -> Number {
-    assert!(answer != NO_STATE, "a state of {STATE_WORDS} words is whole");
+    assert!(
+        answer != NO_STATE,
+        "a state of {STATE_WORDS} words is whole"
+    );
     Number::try_from(answer).expect("a number of the radio card")
 }
 

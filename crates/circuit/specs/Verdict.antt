@@ -1,8 +1,12 @@
 -- What a sweep, a level or a pass says of a table.
+use mathlib.Core.Path.{_≡_}
 use mathlib.Core.Bool.{true, false}
 use mathlib.Core.List.{List}
 use Prim.Native.Nat.{ℕ}
 use Rattle.circuit.specs.declared.Verdict.{Verdict}
+use Rattle.circuit.specs.Legs.{Subtable}
+use Rattle.circuit.specs.Round.{RoundOf}
+use Rattle.circuit.specs.State.{stray}
 
 -- the verdict none: the table stays
 abbrev pub saysNone : List ℕ → Verdict
@@ -11,3 +15,12 @@ saysNone t = record { none = true; left = t }
 -- not none: the table that is left
 abbrev pub leaves : List ℕ → Verdict
 leaves t = record { none = false; left = t }
+
+-- what a sound verdict keeps of the table t
+pub record Sound (n : ℕ) (t : List ℕ) (v : Verdict) : Type 0 where
+  -- no leg appears that was not there
+  pub sub : Subtable (v .left) t
+  -- a table without stray legs stays one
+  pub clean : stray n t ≡ false → stray n (v .left) ≡ false
+  -- where t has a round, the verdict is not none and every leg of the round still stands
+  pub rounds : (h : ℕ → ℕ) → RoundOf n t h → (v .none ≡ false) × RoundOf n (v .left) h

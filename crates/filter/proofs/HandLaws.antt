@@ -13,9 +13,9 @@ use Rattle.circuit.specs.declared.Called.{Called}
 use Rattle.circuit.specs.declared.Answer.the-variants.{Taken, BadWork, StraySeed}
 use Rattle.circuit.specs.Legs.{row, legs}
 use Rattle.circuit.specs.State.{isNone, rowsOf, bad, Good}
+use Rattle.circuit.specs.Verdict.{Sound}
 use Rattle.circuit.proofs.LegsLaws.{legs-le}
 use Rattle.circuit.proofs.StateLaws.{legs-ones}
-use Rattle.circuit.proofs.SoundLaws.{Sound}
 use Rattle.filter.specs.Sweep.{sweep}
 use Rattle.filter.specs.Pass.{pass}
 use Rattle.filter.specs.Calls.{gone, halted, unchanged, reopened, byHand, sweepCall, passCall}

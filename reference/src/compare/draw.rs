@@ -1,9 +1,8 @@
 //! Random arguments: mostly sound ones, and every kind of unsound one.
 
 use super::call::Call;
-use super::made::random_round;
 use crate::fast;
-use crate::gen::{Xorshift, WIDE_NUMBERS};
+use crate::gen::{random_round, Xorshift, WIDE_NUMBERS};
 use crate::state::{End, WorkState};
 
 /// The lines of the full table of 64 stations are shorter.

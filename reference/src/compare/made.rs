@@ -1,7 +1,7 @@
 //! The sheets to compare on, with what is known of them beforehand.
 
 use crate::card::Number;
-use crate::gen::{damaged, random, Family, Sheet, Xorshift};
+use crate::gen::{damaged, plant_round, random, Family, Sheet, Xorshift};
 use crate::state::Rows;
 use crate::table::{Leg, LegTable};
 
@@ -76,25 +76,6 @@ fn any_table(rng: &mut Xorshift, n: usize) -> LegTable {
         }
         at => Family::ALL[at - 1].table(rng, n),
     }
-}
-
-/// Adds the legs of a random round.
-fn plant_round(rng: &mut Xorshift, table: &mut LegTable) -> Vec<usize> {
-    let round = random_round(rng, table.n());
-    for (at, &next) in round.iter().enumerate() {
-        table.add(at + 1, next);
-    }
-    round
-}
-
-/// A round of the full table.
-pub fn random_round(rng: &mut Xorshift, n: usize) -> Vec<usize> {
-    let order = rng.order(n);
-    let mut round = vec![0; n];
-    for (at, &station) in order.iter().enumerate() {
-        round[station - 1] = order[(at + 1) % n];
-    }
-    round
 }
 
 /// Leaves some stations with their leg of the round alone.

@@ -27,7 +27,10 @@ fn fast_calls_differ_nowhere() {
 #[test]
 fn the_same_sheet_gives_the_same_calls() {
     for index in 0..40 {
-        let (first, second) = (compare_sheet(&Fast, 9, index), compare_sheet(&Fast, 9, index));
+        let (first, second) = (
+            compare_sheet(&Fast, 9, index),
+            compare_sheet(&Fast, 9, index),
+        );
         assert_eq!(first.ok(), second.ok());
     }
 }
@@ -112,11 +115,13 @@ impl Calls for Faulty {
     }
 
     fn list_check(&self, state: &WorkState, numbers: &[u8]) -> Checked {
+        if matches!(self.0, Fault::PlaceUnchecked) {
+            return Fast.list_check(&WorkState { place: 0, ..*state }, numbers);
+        }
         let mut checked = Fast.list_check(state, numbers);
         if matches!(self.0, Fault::CircuitsAsRounds) && checked.number == 0 {
-            let stands = |(row, &next): (&u64, &u8)| {
-                (1..=64).contains(&next) && row >> (next - 1) & 1 == 1
-            };
+            let stands =
+                |(row, &next): (&u64, &u8)| (1..=64).contains(&next) && row >> (next - 1) & 1 == 1;
             checked.yes = state.rows.iter().zip(numbers).all(stands);
         }
         checked
@@ -133,5 +138,21 @@ impl Calls for Faulty {
 
     fn bad(&self, state: &WorkState) -> bool {
         Fast.bad(state)
+    }
+}
+
+#[test]
+fn each_fault_is_found() {
+    for fault in FAULTS {
+        let mut sheets = 0..600;
+        let found = sheets.find_map(|index| compare_sheet(&Faulty(fault), 1, index).err());
+        let Some(difference) = found else {
+            panic!("{fault:?} is not found");
+        };
+        let text = difference.to_string();
+        assert!(text.starts_with("sheet:"));
+        for who in ["tested: ", "fast: ", "plain: "] {
+            assert!(text.contains(who));
+        }
     }
 }

@@ -1,8 +1,9 @@
 //! Tests of the plain calls against the definitions, and of the fast calls
-//! against the plain ones.
+//! against the plain ones; the comparison that other calls go through.
 
 mod catalogue;
 mod choices;
+mod compare;
 mod fast;
 mod openings;
 mod scripts;

@@ -1,0 +1,23 @@
+-- What every call keeps: the laws for a library above this one.
+use mathlib.Core.Path.{_≡_}
+use mathlib.Core.Logic.{_⊎_}
+use Prim.Native.Nat.{ℕ}
+use Rattle.circuit.specs.declared.Work.{Work}
+use Rattle.circuit.specs.Card.{ending}
+use Rattle.circuit.specs.Legs.{Subtable}
+use Rattle.circuit.specs.Round.{RoundOf}
+use Rattle.circuit.specs.State.{rowsOf, Good}
+
+-- of a call that was given v and handed back w
+pub record Leads (v w : Work) : Type 0 where
+  -- n and the limit stay
+  pub stations : w .n ≡ v .n
+  pub limit : w .limit ≡ v .limit
+  -- legs are only removed
+  pub sub : Subtable (rowsOf w) (rowsOf v)
+  -- each round is kept
+  pub rounds : (h : ℕ → ℕ) → RoundOf (v .n) (rowsOf v) h → RoundOf (v .n) (rowsOf w) h
+  -- the end is none only where it was, or where there is no round
+  pub none : w .end ≡ ending "none" → (v .end ≡ ending "none") ⊎ ((h : ℕ → ℕ) → RoundOf (v .n) (rowsOf v) h → ⊥)
+  -- a good state stays good
+  pub keeps : Good v → Good w

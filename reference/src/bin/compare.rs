@@ -1,0 +1,133 @@
+//! Compares the proved library with the plain and the fast calls.
+//!
+//! `compare [--seed S] [--sheets COUNT]` goes through that many made-up sheets,
+//! `compare --seed S --sheet K` through a single one of them again. A difference
+//! ends it with status 1.
+
+use std::process::ExitCode;
+use std::str::FromStr;
+use std::sync::atomic::{AtomicU64, Ordering};
+use std::thread;
+use std::time::Instant;
+
+use reference::compare::{compare_sheet, Counts, Difference};
+use reference::Library;
+
+const USAGE: &str = "usage: compare [--seed S] [--sheets COUNT | --sheet K]";
+const THREADS: usize = 2;
+
+struct Options {
+    seed: u64,
+    sheets: u64,
+    only: Option<u64>,
+}
+
+fn main() -> ExitCode {
+    let Some(options) = options(std::env::args().skip(1)) else {
+        eprintln!("{USAGE}");
+        return ExitCode::from(2);
+    };
+    let start = Instant::now();
+    let (first, end) = match options.only {
+        Some(index) => (index, index + 1),
+        None => (0, options.sheets),
+    };
+    match compare(options.seed, first, end) {
+        Ok(counts) => {
+            tell(&options, end - first, &counts);
+            eprintln!("compare: {:.1} seconds", start.elapsed().as_secs_f64());
+            ExitCode::SUCCESS
+        }
+        Err(found) => {
+            tell_difference(options.seed, &found);
+            ExitCode::FAILURE
+        }
+    }
+}
+
+fn options(mut words: impl Iterator<Item = String>) -> Option<Options> {
+    let mut options = Options {
+        seed: 1,
+        sheets: 20_480,
+        only: None,
+    };
+    while let Some(word) = words.next() {
+        let value = u64::from_str(&words.next()?).ok()?;
+        match word.as_str() {
+            "--seed" => options.seed = value,
+            "--sheets" => options.sheets = value,
+            "--sheet" => options.only = Some(value),
+            _ => return None,
+        }
+    }
+    Some(options)
+}
+
+/// A difference with the index of its sheet.
+type Found = (u64, Box<Difference>);
+
+/// Compares on the sheets from `first` up to `end`, several at a time.
+fn compare(seed: u64, first: u64, end: u64) -> Result<Counts, Found> {
+    let next = AtomicU64::new(first);
+    let results = thread::scope(|scope| {
+        let work = || compare_next(seed, &next, end);
+        let threads: Vec<_> = (0..THREADS).map(|_| scope.spawn(work)).collect();
+        let joined = threads.into_iter().map(|thread| thread.join());
+        joined.collect::<Result<Vec<_>, _>>()
+    });
+    let mut sum = Counts::default();
+    let mut lowest: Option<Found> = None;
+    for result in results.expect("no panic outside a comparison") {
+        match result {
+            Ok(counts) => sum.add(&counts),
+            Err(found) if lowest.as_ref().is_none_or(|least| found.0 < least.0) => {
+                lowest = Some(found);
+            }
+            Err(_) => {}
+        }
+    }
+    lowest.map_or(Ok(sum), Err)
+}
+
+/// Takes one sheet after the other until none is left or one differs.
+fn compare_next(seed: u64, next: &AtomicU64, end: u64) -> Result<Counts, Found> {
+    let mut sum = Counts::default();
+    loop {
+        let index = next.fetch_add(1, Ordering::Relaxed);
+        if index >= end {
+            return Ok(sum);
+        }
+        match compare_sheet(&Library, seed, index) {
+            Ok(counts) => sum.add(&counts),
+            Err(difference) => {
+                // Nothing is left for the other threads.
+                next.store(end, Ordering::Relaxed);
+                return Err((index, difference));
+            }
+        }
+    }
+}
+
+fn tell(options: &Options, sheets: u64, counts: &Counts) {
+    let (seed, calls) = (options.seed, counts.calls);
+    println!("compare: seed {seed}, {sheets} sheets, {calls} calls, no difference");
+    println!(
+        "  {} calls answered by the plain calls too, {} sequences on a table with a known round",
+        counts.plain, counts.watched
+    );
+    let numbers: Vec<String> = (0..)
+        .zip(counts.numbers)
+        .map(|(number, count): (u8, u64)| format!("{number}: {count}"))
+        .collect();
+    println!("  answers by number: {}", numbers.join(", "));
+    println!(
+        "  {} legs removed, {} runs to stable, {} to none, {} lists confirmed",
+        counts.legs_removed, counts.ended_stable, counts.ended_none, counts.rounds_confirmed
+    );
+}
+
+fn tell_difference(seed: u64, (index, difference): &Found) {
+    println!("compare: seed {seed}, sheet {index} differs");
+    print!("{difference}");
+    println!("again: compare --seed {seed} --sheet {index}");
+}
