@@ -13,6 +13,7 @@ pub const PLACE: usize = 66;
 pub const MARK: usize = 67;
 pub const END: usize = 68;
 
+#[inline]
 pub fn to_words(state: &WorkState) -> Words {
     let mut words = [0; STATE_WORDS];
     words[..N].copy_from_slice(&state.rows);
@@ -29,6 +30,7 @@ pub fn to_words(state: &WorkState) -> Words {
 }
 
 /// Nothing comes back when the words of mark or end stand for no value.
+#[inline]
 pub fn from_words(words: &Words) -> Option<WorkState> {
     let mut rows = [0; 64];
     rows.copy_from_slice(&words[..N]);

@@ -188,22 +188,26 @@ impl Side for Direct {
     }
 
     fn open(sheet: &[u8], state: &mut WorkState) {
-        let opened = black_box(fast::open(sheet, LIMIT as u64));
+        let opened = fast::open(sheet, LIMIT as u64);
+        black_box((opened.number, opened.place));
         *state = opened.state;
     }
 
     fn sweep(state: &mut WorkState) {
-        let swept = black_box(fast::sweep(*state));
+        let swept = fast::sweep(*state);
+        black_box((swept.number, swept.removed));
         *state = swept.state;
     }
 
     fn pass(state: &mut WorkState, seed: usize) {
-        let passed = black_box(fast::pass(*state, seed as u64));
+        let passed = fast::pass(*state, seed as u64);
+        black_box((passed.number, passed.removed));
         *state = passed.state;
     }
 
     fn run(state: &mut WorkState) {
-        let ran = black_box(fast::run(*state, u32::MAX));
+        let ran = fast::run(*state, u32::MAX);
+        black_box((ran.number, ran.steps, ran.removed));
         *state = ran.state;
     }
 }
@@ -211,12 +215,9 @@ impl Side for Direct {
 /// The fast calls on a state in lent words.
 struct Lent;
 
-impl Lent {
-    fn call(words: &mut Words, call: impl FnOnce(&mut WorkState)) {
-        let mut state = from_words(words).expect("words of a state");
-        call(&mut state);
-        *words = to_words(&state);
-    }
+#[inline]
+fn load(words: &Words) -> WorkState {
+    from_words(words).expect("words of a state")
 }
 
 impl Side for Lent {
@@ -227,19 +228,27 @@ impl Side for Lent {
     }
 
     fn open(sheet: &[u8], state: &mut Words) {
-        *state = to_words(&black_box(fast::open(sheet, LIMIT as u64)).state);
+        let opened = fast::open(sheet, LIMIT as u64);
+        black_box((opened.number, opened.place));
+        *state = to_words(&opened.state);
     }
 
     fn sweep(state: &mut Words) {
-        Lent::call(state, Direct::sweep);
+        let swept = fast::sweep(load(state));
+        black_box((swept.number, swept.removed));
+        *state = to_words(&swept.state);
     }
 
     fn pass(state: &mut Words, seed: usize) {
-        Lent::call(state, |state| Direct::pass(state, seed));
+        let passed = fast::pass(load(state), seed as u64);
+        black_box((passed.number, passed.removed));
+        *state = to_words(&passed.state);
     }
 
     fn run(state: &mut Words) {
-        Lent::call(state, Direct::run);
+        let ran = fast::run(load(state), u32::MAX);
+        black_box((ran.number, ran.steps, ran.removed));
+        *state = to_words(&ran.state);
     }
 }
 
