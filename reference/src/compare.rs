@@ -235,10 +235,10 @@ impl Session<'_> {
     fn plain_takes_part(&mut self, call: &Call) -> bool {
         let chance = match (call, self.state.n) {
             (Call::Open { .. }, _) | (_, 0..=12) => 100,
-            (Call::Run { .. }, 13..=24) => 30,
-            (Call::Run { budget: 5.. }, 25..=64) => 3,
-            (_, 13..=24) => 80,
-            _ => 30,
+            (Call::Run { .. }, 13..=24) => 50,
+            (Call::Run { budget: 5.. }, 25..=64) => 5,
+            (_, 13..=24) => 100,
+            _ => 40,
         };
         self.rng.percent(chance)
     }

@@ -14,6 +14,7 @@ use reference::compare::{compare_sheet, Counts, Difference};
 use reference::Library;
 
 const USAGE: &str = "usage: compare [--seed S] [--sheets COUNT | --sheet K]";
+const COMMAND: &str = "cargo run --release --offline --features library --bin compare --";
 const THREADS: usize = 2;
 
 struct Options {
@@ -129,5 +130,5 @@ fn tell(options: &Options, sheets: u64, counts: &Counts) {
 fn tell_difference(seed: u64, (index, difference): &Found) {
     println!("compare: seed {seed}, sheet {index} differs");
     print!("{difference}");
-    println!("again: compare --seed {seed} --sheet {index}");
+    println!("again: {COMMAND} --seed {seed} --sheet {index}");
 }

@@ -1,20 +1,13 @@
 -- `filter::at_place` meets its contract.
 use borrow.Author.Needs.{needs}
-use mathlib.Core.Path.{ap, _∙_}
+use mathlib.Core.Path.{_∙_}
 use native.Mathlib.Omega.{arith}
-use lib.ListN.{length}
-use Rattle.bitset.proofs.UptoLaws.{length-upto}
-use Rattle.circuit.specs.Legs.{col}
-use Rattle.circuit.specs.State.{rowsOf}
 use Rattle.filter.proofs.StepLaws.{at-first, at-seed}
 use Rattle.filter.proofs.at_place.Statement.{statement}
 use Rattle.filter.proofs.at_place.Tie as tie
 
 sweep-on-requires : tie.Need-sweep-on-requires
-sweep-on-requires c κs =
-    let s = c .before .before .before .before in
-    let w = s .args .w in
-    (s .pre .0 .most, s .pre .0 .table, ap length (s .pre .1) ∙ length-upto 64 (col (w .n) (rowsOf w)))
+sweep-on-requires c κs = let s = c .before .before .before .before in (s .pre .0 .most, s .pre .0 .table, s .pre .1)
 
 returns : tie.Need-returns
 returns c = let s = c .before .before .before .before .before in (c .sweep-on .ensures .0 ∙ at-first (s .args .w) (s .args .w .place) (omega arith), c .sweep-on .ensures .1)

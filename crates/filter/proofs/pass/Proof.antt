@@ -67,34 +67,38 @@ returns-3 c =
     pass-good (a .work) (a .seed) (s .not-bad) (s .not-stray) (c .unchanged3 .result)
     (c .unchanged3 .ensures ∙ hand-ended (a .work) (pass (a .work .n) (rowsOf (a .work)) (a .work .limit) (pred (a .seed))) (sym (n .is-none .ensures) ∙ c .before .if3 .taken))
 
-sub-pass-rows : tie.Need-sub-pass-rows
-sub-pass-rows c = sure (c .before .before .before .before) .least
+columns-requires : tie.Need-columns-requires
+columns-requires c κs = sure (c .before .before .before .before .before) .state .most
 
-pass-rows-requires : tie.Need-pass-rows-requires
-pass-rows-requires c κs =
-    let s = sure (c .before .before .before .before) in
-    (s .state .most, s .state .table, omega (arith, s .least, s .most))
+sub-pass-on : tie.Need-sub-pass-on
+sub-pass-on c = sure (c .before .before .before .before .before .before .before) .least
+
+pass-on-requires : tie.Need-pass-on-requires
+pass-on-requires c κs =
+    let k = c .before in
+    let s = sure (k .before .before .before .before .before .before) in
+    (s .state .most, s .state .table, omega (arith, s .least, s .most), k .columns .ensures)
 
 by-hand-requires : tie.Need-by-hand-requires
 by-hand-requires c κs =
-    let e = c .before .before .before in
+    let e = c .before .before .before .before .before .before in
     let s = sure (e .before .before) in
     let a = e .before .before .before .before .before .args in
     let w = a .work in (
       s .state,
-      subst (λ (v : Verdict). Within w v) (sym (c .pass-rows .ensures ∙ ap (pass (w .n) (rowsOf w) (w .limit)) (s .index)))
+      subst (λ (v : Verdict). Within w v) (sym (c .pass-on .ensures .0 ∙ ap (pass (w .n) (rowsOf w) (w .limit)) (s .index)))
           (within w (pass (w .n) (rowsOf w) (w .limit) (pred (a .seed))) (s .state) (pass-sound (w .n) (rowsOf w) (w .limit) (pred (a .seed)) (omega (arith, s .least, s .most)) (s .state .most))),
       sym (e .before .is-none .ensures) ∙ e .if3 .left,
     )
 
 returns-4 : tie.Need-returns-4
 returns-4 c =
-    let e = c .before .before .before .before in
+    let e = c .before .before .before .before .before .before .before in
     let s = sure (e .before .before) in
     let a = e .before .before .before .before .before .args in
     let w = a .work in
     pass-good w (a .seed) (s .not-bad) (s .not-stray) (c .by-hand .result)
-    (c .by-hand .ensures ∙ ap (byHand w) (c .before .pass-rows .ensures ∙ ap (pass (w .n) (rowsOf w) (w .limit)) (s .index)))
+    (c .by-hand .ensures ∙ ap (byHand w) (c .before .pass-on .ensures .0 ∙ ap (pass (w .n) (rowsOf w) (w .limit)) (s .index)))
 
 pub pass-spec : {M : Type 1} → statement M
 pass-spec =
@@ -108,7 +112,8 @@ pass-spec =
     is-none-requires
     unchanged-requires-3
     returns-3
-    sub-pass-rows
-    pass-rows-requires
+    columns-requires
+    sub-pass-on
+    pass-on-requires
     by-hand-requires
     returns-4)

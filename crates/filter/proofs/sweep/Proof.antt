@@ -2,7 +2,7 @@
 use borrow.Author.Needs.{needs}
 use mathlib.Core.Path.{sym, ap, subst, _∙_}
 use Rattle.circuit.specs.declared.Verdict.{Verdict}
-use Rattle.circuit.specs.State.{rowsOf}
+use Rattle.circuit.specs.State.{rowsOf, Good}
 use Rattle.circuit.proofs.StateLaws.{good}
 use Rattle.filter.specs.Sweep.{sweep}
 use Rattle.filter.specs.Calls.{byHand}
@@ -37,18 +37,24 @@ returns-2 c =
     sweep-good w (sym (b .is-bad .ensures) ∙ n .before .if1 .left) (c .unchanged2 .result)
     (c .unchanged2 .ensures ∙ hand-ended w (sweep (w .n) (rowsOf w)) (sym (n .is-none .ensures) ∙ c .before .if2 .taken))
 
+-- the state is good
+sure : (c : tie.Else2) → Good (c .before .before .before .before .args .work)
+sure c = let b = c .before .before .before in good (b .before .args .work) (sym (b .is-bad .ensures) ∙ c .before .before .if1 .left)
+
+columns-requires : tie.Need-columns-requires
+columns-requires c κs = sure (c .before .before .before) .most
+
 sweep-rows-requires : tie.Need-sweep-rows-requires
 sweep-rows-requires c κs =
-    let b = c .before .before .before .before .before in
-    let g = good (b .before .args .work) (sym (b .is-bad .ensures) ∙ c .before .before .before .before .if1 .left) in
-    (g .most, g .table)
+    let k = c .before in
+    let g = sure (k .before .before .before .before) in
+    (g .most, g .table, k .columns .ensures)
 
 by-hand-requires : tie.Need-by-hand-requires
 by-hand-requires c κs =
-    let e = c .before .before .before in
-    let b = e .before .before .before in
-    let w = b .before .args .work in
-    let g = good w (sym (b .is-bad .ensures) ∙ e .before .before .if1 .left) in (
+    let e = c .before .before .before .before .before .before in
+    let w = e .before .before .before .before .args .work in
+    let g = sure e in (
       g,
       subst (λ (v : Verdict). Within w v) (sym (c .sweep-rows .ensures)) (within w (sweep (w .n) (rowsOf w)) g (sweep-sound (w .n) (rowsOf w) (g .most))),
       sym (e .before .is-none .ensures) ∙ e .if2 .left,
@@ -56,7 +62,7 @@ by-hand-requires c κs =
 
 returns-3 : tie.Need-returns-3
 returns-3 c =
-    let e = c .before .before .before .before in
+    let e = c .before .before .before .before .before .before .before in
     let b = e .before .before .before in
     let w = b .before .args .work in
     sweep-good w (sym (b .is-bad .ensures) ∙ e .before .before .if1 .left) (c .by-hand .result) (c .by-hand .ensures ∙ ap (byHand w) (c .before .sweep-rows .ensures))
@@ -71,6 +77,7 @@ sweep-spec =
     is-none-requires
     unchanged-requires-2
     returns-2
+    columns-requires
     sweep-rows-requires
     by-hand-requires
     returns-3)
