@@ -125,7 +125,7 @@ impl Session<'_> {
         };
         let as_known = match &self.made.known {
             Known::Nothing => true,
-            Known::Rows(rows) => opened.number == 0 && opened.state.rows == *rows,
+            Known::Table(table) => opened.number == 0 && opened.state.rows == table.rows(),
             Known::Refusal { number, place } => {
                 (opened.number, opened.place) == (*number, *place as u64)
             }

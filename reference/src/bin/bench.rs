@@ -19,12 +19,14 @@ Each cell: time per call of the proved library / of the fast calls = ratio.
 
 - Both get the state in 69 lent words; the fast calls load it from there and
   store it back, and that is part of their time.
+- The sheets have next sets, previous sets and fixed fields.
 - Before each repetition the words are copied in afresh, outside the time taken.
-  Within it no buffer is cleared, neither by the caller nor by a call.";
+  Within it the caller clears no buffer; what a call clears of its own working
+  space is part of its time, on both sides.";
 
 fn main() {
     println!("{NOTES}");
-    println!("- Median of {REPETITIONS} repetitions, mean over {TABLES} tables, of a pass over all seeds too.");
+    println!("- Median of {REPETITIONS} repetitions; mean over {TABLES} tables, for a pass over all seeds too.");
     let shapes = SHAPES.map(Shape::inputs);
     let mut worst = Worst::default();
     for call in [Timed::Open, Timed::Sweep, Timed::Pass, Timed::Run] {
@@ -106,7 +108,8 @@ impl Shape {
             let table = (self.table)(rng, n);
             let state = WorkState::opened(&table, LIMIT as u64);
             if fast::run(state, u32::MAX).state.end == End::Stable {
-                let sheet = Sheet::of(&table).bytes();
+                assert_same_run(&state);
+                let sheet = Sheet::mixed(rng, &table).bytes();
                 return Input { sheet, state };
             }
         }
@@ -250,6 +253,14 @@ impl Side for Lent {
         black_box((ran.number, ran.steps, ran.removed));
         *state = to_words(&ran.state);
     }
+}
+
+/// Times mean something only for the same work.
+fn assert_same_run(state: &WorkState) {
+    let (mut proved, mut lent) = (to_words(state), to_words(state));
+    Proved::run(&mut proved);
+    Lent::run(&mut lent);
+    assert_eq!(proved, lent);
 }
 
 /// Nanoseconds per call, for the three ways of calling.

@@ -30,12 +30,12 @@ fn main() -> ExitCode {
     };
     let start = Instant::now();
     let (first, end) = match options.only {
-        Some(index) => (index, index + 1),
+        Some(index) => (index, index.saturating_add(1)),
         None => (0, options.sheets),
     };
     match compare(options.seed, first, end) {
         Ok(counts) => {
-            tell(&options, end - first, &counts);
+            tell(options.seed, end - first, &counts);
             eprintln!("compare: {:.1} seconds", start.elapsed().as_secs_f64());
             ExitCode::SUCCESS
         }
@@ -77,16 +77,14 @@ fn compare(seed: u64, first: u64, end: u64) -> Result<Counts, Found> {
         joined.collect::<Result<Vec<_>, _>>()
     });
     let mut sum = Counts::default();
-    let mut lowest: Option<Found> = None;
+    let mut found = Vec::new();
     for result in results.expect("no panic outside a comparison") {
         match result {
             Ok(counts) => sum.add(&counts),
-            Err(found) if lowest.as_ref().is_none_or(|least| found.0 < least.0) => {
-                lowest = Some(found);
-            }
-            Err(_) => {}
+            Err(one) => found.push(one),
         }
     }
+    let lowest = found.into_iter().min_by_key(|(index, _)| *index);
     lowest.map_or(Ok(sum), Err)
 }
 
@@ -109,8 +107,8 @@ fn compare_next(seed: u64, next: &AtomicU64, end: u64) -> Result<Counts, Found> 
     }
 }
 
-fn tell(options: &Options, sheets: u64, counts: &Counts) {
-    let (seed, calls) = (options.seed, counts.calls);
+fn tell(seed: u64, sheets: u64, counts: &Counts) {
+    let calls = counts.calls;
     println!("compare: seed {seed}, {sheets} sheets, {calls} calls, no difference");
     println!(
         "  {} calls answered by the plain calls too, {} sequences on a table with a known round",

@@ -18,7 +18,7 @@ pub struct Difference {
     pub steps: Vec<Step>,
     /// What is wrong with the last step.
     pub reason: &'static str,
-    /// By whom and what the last step was answered.
+    /// Who answered the last step, and what.
     pub answers: Vec<(&'static str, String)>,
 }
 
@@ -35,7 +35,7 @@ impl fmt::Display for Difference {
                 Step::Put(state) => writeln!(out, "  go on from the state {state}")?,
             }
         }
-        writeln!(out, "{}; the last call is answered", self.reason)?;
+        writeln!(out, "{}; the last call is answered by", self.reason)?;
         for (who, answer) in &self.answers {
             writeln!(out, "  {who}: {answer}")?;
         }

@@ -2,7 +2,6 @@
 
 use crate::card::Number;
 use crate::gen::{damaged, plant_round, random, Family, Sheet, Xorshift};
-use crate::state::Rows;
 use crate::table::{Leg, LegTable};
 
 pub struct Made {
@@ -15,7 +14,7 @@ pub struct Made {
 /// What opening the sheet must give.
 pub enum Known {
     Nothing,
-    Rows(Rows),
+    Table(LegTable),
     Refusal { number: Number, place: usize },
 }
 
@@ -63,7 +62,7 @@ fn sheet_of_table(rng: &mut Xorshift) -> Made {
     };
     Made {
         bytes: sheet.bytes(),
-        known: Known::Rows(table.rows()),
+        known: Known::Table(table),
         round,
     }
 }

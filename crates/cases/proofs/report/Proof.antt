@@ -1,0 +1,60 @@
+-- `cases::report` is safe, and takes no more than the part. Assumes nothing.
+use borrow.Author.Needs.{needs}
+use mathlib.Core.Path.{sym, _∙_}
+use Prim.Native.Nat.{_≤_}
+use native.Mathlib.Nat.{min-eq-left}
+use native.Mathlib.Omega.{arith}
+use lib.ListN.{length, length-take}
+use Rattle.cases.proofs.report.Statement.{statement}
+use Rattle.cases.proofs.report.Tie as tie
+
+stop-requires : tie.Need-stop-requires
+stop-requires c κs = search needs
+
+returns : tie.Need-returns
+returns c = search needs
+
+read-u16-requires : tie.Need-read-u16-requires
+read-u16-requires c κs = search needs
+
+cast-len : tie.Need-cast-len
+cast-len c = search needs
+
+stop-requires-2 : tie.Need-stop-requires-2
+stop-requires-2 c κs = search needs
+
+returns-2 : tie.Need-returns-2
+returns-2 c = search needs
+
+filled-requires : tie.Need-filled-requires
+filled-requires c κs = search needs
+
+array-borrow-prefix-buf : tie.Need-array-borrow-prefix-buf
+array-borrow-prefix-buf c = search needs
+
+slice-aggregate-print-report : tie.Need-slice-aggregate-print-report
+slice-aggregate-print-report c =
+    let h : c .before .before .before .read-u16 .result ≤ length (c .before .filled .result) = omega arith in
+    sym (length-take _ _ ∙ min-eq-left h)
+
+print-report-requires : tie.Need-print-report-requires
+print-report-requires c κs = search needs
+
+returns-3 : tie.Need-returns-3
+returns-3 c = search needs
+
+pub report-spec : {M : Type 1} → statement M
+report-spec =
+    tie.close
+    (tie.spec
+    stop-requires
+    returns
+    read-u16-requires
+    cast-len
+    stop-requires-2
+    returns-2
+    filled-requires
+    array-borrow-prefix-buf
+    slice-aggregate-print-report
+    print-report-requires
+    returns-3)

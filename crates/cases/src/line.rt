@@ -1,0 +1,71 @@
+// Text is put together in a line, an array of the caller's: one write a line, not one a word.
+// A writer puts its text at a place of the line and answers the place after it. What has no room is left out.
+use libc::STDOUT_FILENO;
+ghost use Prim.Native.Nat.{_≤_, _<_};
+
+// The longest line, that of a state with all its rows, has 1,382 bytes. The contracts write LINE out.
+pub const LINE: usize = 1536;
+
+pub fn print(text: &[u8]) {
+    io::write_all(STDOUT_FILENO, text);
+}
+
+// Writes the line up to a place. It is taken by value: its length is then known.
+pub fn print_line(line: [u8; LINE], at: usize)
+    requires { ⌜ at ≤ 1536 ⌝ }
+{
+    print(&line[..at]);
+}
+
+pub fn put(line: &mut [u8; LINE], at: usize, text: &[u8]) -> usize
+    requires { ⌜ at ≤ 1536 ⌝ }
+    ensures { λ r. ⌜ r ≤ 1536 ⌝ }
+{
+    let mut i = at;
+    let mut k = 0usize;
+    while i < LINE && k < text.len() {
+        line[i] = text[k];
+        i += 1;
+        k += 1;
+    }
+    i
+}
+
+// A word and a number in decimal.
+pub fn put_field(line: &mut [u8; LINE], at: usize, word: &[u8], x: u64) -> usize
+    requires { ⌜ at ≤ 1536 ⌝ }
+    ensures { λ r. ⌜ r ≤ 1536 ⌝ }
+{
+    let mut digits = [0u8; 20];
+    let len = io::decimal(x, &mut digits);
+    let at = put(line, at, word);
+    put(line, at, &digits[..len])
+}
+
+// The row i, counted from 0, where it is not empty: its number from 1 on, and 16 digits.
+fn put_row(line: &mut [u8; LINE], at: usize, i: usize, row: u64) -> usize
+    requires { ⌜ (at ≤ 1536) × (i < 64) ⌝ }
+    ensures { λ r. ⌜ r ≤ 1536 ⌝ }
+{
+    if row == 0 {
+        return at;
+    }
+    let mut digits = [0u8; 16];
+    let len = io::hex(row, 16, &mut digits);
+    let at = put_field(line, at, b" ", i as u64 + 1);
+    let at = put(line, at, b"=");
+    put(line, at, &digits[..len])
+}
+
+pub fn put_rows(line: &mut [u8; LINE], at: usize, rows: &[u64; 64]) -> usize
+    requires { ⌜ at ≤ 1536 ⌝ }
+    ensures { λ r. ⌜ r ≤ 1536 ⌝ }
+{
+    let mut next = at;
+    let mut i = 0usize;
+    while i < 64 {
+        next = put_row(line, next, i, rows[i]);
+        i += 1;
+    }
+    next
+}

@@ -1,0 +1,230 @@
+// Answers a script of calls from standard input. A command is an opcode byte and its arguments, integers little-endian:
+//
+//   O  open        limit u64, length u16, sheet bytes
+//   W  work state  n, limit, place u64, mark u8, end u8, 64 rows u64
+//   S  sweep
+//   P  pass        seed u64
+//   R  run         budget u32
+//   L  list check  length u16, numbers one byte each
+//   T  report      buffer length u16, at most 16,384
+//
+// The calls work on one current state, at first the blank one. An unknown or cut command, or an argument out of its range, is
+// answered by `stop`, and ends the script.
+mod answer;
+mod line;
+mod read;
+
+use answer::print_called;
+use answer::print_checked;
+use answer::print_opened;
+use answer::print_ran;
+use answer::print_report;
+use answer::print_work;
+use circuit::End;
+use circuit::Table;
+use circuit::Work;
+use libc::STDIN_FILENO;
+use line::print;
+use read::read_rows;
+use read::read_u16;
+use read::read_u32;
+use read::read_u64;
+ghost use denote.Ref.{now};
+ghost use mathlib.Core.Path.{_≡_};
+ghost use Prim.Native.Nat.{_≤_};
+ghost use lib.ListN.{length};
+
+// The longest script; what is past it is not read.
+const SCRIPT: usize = 425984;
+
+// The longest report buffer.
+const REPORT: usize = 16384;
+
+// An opcode, three words, the mark, the end and 64 rows.
+const WORK_LEN: usize = 539;
+
+// How many bytes a command took, 0 where it stops the script, and the state after it. The functions below take the part of the
+// script that starts with their command.
+struct Step {
+    taken: usize,
+    work: Work,
+}
+
+fn stop(work: Work) -> Step
+    ensures { λ r. ⌜ r .taken ≡ 0 ⌝ }
+{
+    Step { taken: 0, work }
+}
+
+fn end_of(code: u8) -> End {
+    match code {
+        0 => End::Open,
+        1 => End::Stable,
+        _ => End::None,
+    }
+}
+
+fn open(part: &[u8], work: Work) -> Step
+    ensures { λ r. ⌜ r .taken ≤ length (now (part .entry)) ⌝ }
+{
+    if part.len() < 11 {
+        return stop(work);
+    }
+    let limit = read_u64(part, 1) as usize;
+    let end = 11 + read_u16(part, 9) as usize;
+    if part.len() < end {
+        return stop(work);
+    }
+    let opened = sheet::open(&part[11..end], limit);
+    print_opened(opened);
+    let next = opened.work;
+    Step {
+        taken: end,
+        work: next,
+    }
+}
+
+fn set_work(part: &[u8], work: Work) -> Step
+    ensures { λ r. ⌜ r .taken ≤ length (now (part .entry)) ⌝ }
+{
+    if part.len() < WORK_LEN {
+        return stop(work);
+    }
+    let mark = part[25];
+    let end = part[26];
+    if 1 < mark || 2 < end {
+        return stop(work);
+    }
+    let table = Table {
+        rows: read_rows(part, 27),
+    };
+    let next = Work::new(
+        read_u64(part, 1) as usize,
+        table,
+        read_u64(part, 9) as usize,
+        read_u64(part, 17) as usize,
+        mark == 1,
+        end_of(end),
+    );
+    print_work(next);
+    Step {
+        taken: WORK_LEN,
+        work: next,
+    }
+}
+
+fn sweep(work: Work) -> Step
+    ensures { λ r. ⌜ r .taken ≡ 1 ⌝ }
+{
+    let swept = filter::sweep(work);
+    print_called(b"sweep ", swept);
+    let next = swept.work;
+    Step {
+        taken: 1,
+        work: next,
+    }
+}
+
+fn pass(part: &[u8], work: Work) -> Step
+    ensures { λ r. ⌜ r .taken ≤ length (now (part .entry)) ⌝ }
+{
+    if part.len() < 9 {
+        return stop(work);
+    }
+    let passed = filter::pass(work, read_u64(part, 1) as usize);
+    print_called(b"pass ", passed);
+    let next = passed.work;
+    Step {
+        taken: 9,
+        work: next,
+    }
+}
+
+fn run(part: &[u8], work: Work) -> Step
+    ensures { λ r. ⌜ r .taken ≤ length (now (part .entry)) ⌝ }
+{
+    if part.len() < 5 {
+        return stop(work);
+    }
+    let ran = filter::run(work, read_u32(part, 1));
+    print_ran(ran);
+    let next = ran.work;
+    Step {
+        taken: 5,
+        work: next,
+    }
+}
+
+fn check_list(part: &[u8], work: Work) -> Step
+    ensures { λ r. ⌜ r .taken ≤ length (now (part .entry)) ⌝ }
+{
+    if part.len() < 3 {
+        return stop(work);
+    }
+    let end = 3 + read_u16(part, 1) as usize;
+    if part.len() < end {
+        return stop(work);
+    }
+    print_checked(work.check_list(&part[3..end]));
+    Step { taken: end, work }
+}
+
+// What a report buffer holds before the call. As a call's result the array is known by its length, and not by its elements.
+fn filled() -> [u8; REPORT]
+    ensures { λ r. ⌜ 16384 ≡ length r ⌝ }
+{
+    [b'.'; REPORT]
+}
+
+fn report(part: &[u8], work: Work) -> Step
+    ensures { λ r. ⌜ r .taken ≤ length (now (part .entry)) ⌝ }
+{
+    if part.len() < 3 {
+        return stop(work);
+    }
+    let len = read_u16(part, 1) as usize;
+    if REPORT < len {
+        return stop(work);
+    }
+    let mut buf = filled();
+    print_report(work, &mut buf[..len]);
+    Step { taken: 3, work }
+}
+
+fn command(part: &[u8], work: Work) -> Step
+    requires { ⌜ 1 ≤ length (now part) ⌝ }
+    ensures { λ r. ⌜ r .taken ≤ length (now (part .entry)) ⌝ }
+{
+    let opcode = part[0];
+    match opcode {
+        b'O' => open(part, work),
+        b'W' => set_work(part, work),
+        b'S' => sweep(work),
+        b'P' => pass(part, work),
+        b'R' => run(part, work),
+        b'L' => check_list(part, work),
+        b'T' => report(part, work),
+        _ => stop(work),
+    }
+}
+
+fn play(script: &[u8]) {
+    let mut work = Work::blank();
+    let mut at = 0usize;
+    while at < script.len() {
+        let step = command(&script[at..], work);
+        if step.taken == 0 {
+            print(b"stop\n");
+            return;
+        }
+        at += step.taken;
+        let next = step.work;
+        work = next;
+    }
+}
+
+fn main() {
+    let mut script = [0u8; SCRIPT];
+    let len = io::read_full(STDIN_FILENO, &mut script);
+    play(&script[..len]);
+}

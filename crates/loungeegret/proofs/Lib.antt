@@ -1,0 +1,2 @@
+-- Laws of a work state in words.
+pub mod WordsLaws

@@ -1,0 +1,63 @@
+-- What the calls leave with a caller in another language: the number, the lent words and bytes, and what is written through pointers.
+-- In a record of a call, s is the lent state and r the number; of what the call may write, x is there before it and x₁ after it.
+use mathlib.Core.Path.{_≡_}
+use mathlib.Core.Bool.{Bool, not, cond}
+use mathlib.Core.List.{List}
+use Prim.Native.Nat.{ℕ}
+use lib.Dec.{eqb}
+use Rattle.bitset.specs.Sets.{digit}
+use Rattle.circuit.specs.declared.Answer.{Answer}
+use Rattle.circuit.specs.declared.Work.{Work}
+use Rattle.circuit.specs.declared.Opened.{Opened}
+use Rattle.circuit.specs.declared.Called.{Called}
+use Rattle.circuit.specs.declared.Ran.{Ran}
+use Rattle.circuit.specs.declared.Checked.{Checked}
+use Rattle.circuit.specs.declared.Reported.{Reported}
+use Rattle.circuit.specs.Card.{number}
+use Rattle.loungeegret.specs.Words.{tooFew, storedIn}
+
+-- the number of a call on too few words for a state; no answer of the card has it
+abbrev pub noState : ℕ
+noState = 100
+
+-- what a call on the lent words s makes of x: with too few words for a state it writes nothing
+unfoldable pub onState : {A : Type 0} → List ℕ → A → A → A
+onState s x x₁ = cond (tooFew s) x x₁
+
+-- the call is refused
+abbrev pub refuses : Answer → Bool
+refuses a = not (eqb (number a) 0)
+
+-- the lent words after a call that hands back the work state w: a refused one leaves them as they were
+unfoldable pub wordsAfter : List ℕ → Answer → Work → List ℕ
+wordsAfter s a w = cond (refuses a) s (storedIn s w)
+
+-- opening; a refused one leaves the blank work state
+pub record OpenResult (o : Opened) (s s₁ : List ℕ) (p p₁ r : ℕ) : Type 0 where
+  pub number : r ≡ onState s noState (number (o .answer))
+  pub words : s₁ ≡ onState s s (storedIn s (o .work))
+  pub place : p₁ ≡ onState s p (o .at)
+
+-- a sweep or a pass
+pub record CallResult (c : Called) (s s₁ : List ℕ) (k k₁ r : ℕ) : Type 0 where
+  pub number : r ≡ onState s noState (number (c .answer))
+  pub words : s₁ ≡ onState s s (wordsAfter s (c .answer) (c .work))
+  pub removed : k₁ ≡ onState s k (c .removed)
+
+-- a run
+pub record RunResult (c : Ran) (s s₁ : List ℕ) (m m₁ k k₁ r : ℕ) : Type 0 where
+  pub number : r ≡ onState s noState (number (c .answer))
+  pub words : s₁ ≡ onState s s (wordsAfter s (c .answer) (c .work))
+  pub steps : m₁ ≡ onState s m (c .steps)
+  pub removed : k₁ ≡ onState s k (c .removed)
+
+-- the list check
+pub record CheckResult (c : Checked) (s : List ℕ) (y y₁ r : ℕ) : Type 0 where
+  pub number : r ≡ onState s noState (number (c .answer))
+  pub yes : y₁ ≡ onState s y (digit (c .yes))
+
+-- the report, which makes t of the lent bytes b
+pub record ReportResult (c : Reported) (t s b b₁ : List ℕ) (l l₁ r : ℕ) : Type 0 where
+  pub number : r ≡ onState s noState (number (c .answer))
+  pub bytes : b₁ ≡ onState s b t
+  pub len : l₁ ≡ onState s l (c .len)

@@ -1,0 +1,233 @@
+// The library for other languages. The work state lies in words that the caller lends: a call loads it, makes the call of the
+// crate below and puts the state that comes back into the same words. A call on too few words for a state answers a number
+// that the card has not, and writes nothing; so no call requires anything of its caller.
+use circuit::Answer;
+use circuit::End;
+use circuit::Table;
+use circuit::Work;
+ghost use denote.Ref.{now};
+ghost use mathlib.Core.Path.{_≡_};
+ghost use mathlib.Core.List.{_++_};
+ghost use Prim.Native.Nat.{_≤_};
+ghost use lib.ListN.{length, take, drop};
+ghost use Rattle.circuit.specs.Card.{number};
+ghost use Rattle.circuit.specs.Check.{checkCall};
+ghost use Rattle.sheet.specs.Open.{openCall};
+ghost use Rattle.report.specs.Lines.{reportCall, reportBytes};
+ghost use Rattle.filter.specs.Calls.{sweepCall, passCall, runCall};
+ghost use Rattle.loungeegret.specs.Words.{stateWords, endNumber, endOf, loaded, storedIn};
+ghost use Rattle.loungeegret.specs.Results.{wordsAfter, OpenResult, CallResult, RunResult, CheckResult, ReportResult};
+
+// Where the words stand that follow the rows of the table, and how many words a state has.
+const N: usize = 64;
+
+const LIMIT: usize = 65;
+
+const PLACE: usize = 66;
+
+const MARK: usize = 67;
+
+const END_NUMBER: usize = 68;
+
+const STATE_WORDS: usize = 69;
+
+// The number for too few words.
+const NO_STATE: u32 = 100;
+
+// The end with this number; none, where no end has it.
+fn end_of(k: u64) -> End
+    ensures { λ r. ⌜ r ≡ endOf k ⌝ }
+{
+    match k {
+        0 => End::Open,
+        1 => End::Stable,
+        _ => End::None,
+    }
+}
+
+fn end_number(end: End) -> u64
+    ensures { λ r. ⌜ r ≡ endNumber end ⌝ }
+{
+    match end {
+        End::Open => 0,
+        End::Stable => 1,
+        End::None => 2,
+    }
+}
+
+// A cast of an element in place would ask that it fits; of a parameter that is known.
+fn size(x: u64) -> usize
+    ensures { λ r. ⌜ r ≡ x ⌝ }
+{
+    x as usize
+}
+
+fn load_table(state: &[u64]) -> Table
+    requires { ⌜ stateWords ≤ length (now state) ⌝ }
+    ensures { λ r. ⌜ r .rows ≡ take 64 (now (state .entry)) ⌝ }
+{
+    let mut rows = [0u64; 64];
+    let mut i = 0usize;
+    while i < Table::MAX {
+        rows[i] = state[i];
+        i += 1;
+    }
+    Table { rows }
+}
+
+// The work state that the words say. A mark or an end out of range is a bad work state, as the blank one is.
+fn load(state: &[u64]) -> Work
+    requires { ⌜ stateWords ≤ length (now state) ⌝ }
+    ensures { λ r. ⌜ r ≡ loaded (now (state .entry)) ⌝ }
+{
+    let mark = state[MARK];
+    let end = state[END_NUMBER];
+    if (1 < mark) | (2 < end) {
+        return Work::blank();
+    }
+    Work::new(
+        size(state[N]),
+        load_table(state),
+        size(state[LIMIT]),
+        size(state[PLACE]),
+        mark == 1,
+        end_of(end),
+    )
+}
+
+fn store_rows(state: &mut [u64], rows: [u64; 64])
+    requires { ⌜ stateWords ≤ length (now state) ⌝ }
+    ensures { λ _. ⌜ now (state .exit) ≡ rows ++ drop 64 (now (state .entry)) ⌝ }
+{
+    let mut i = 0usize;
+    while i < Table::MAX {
+        state[i] = rows[i];
+        i += 1;
+    }
+}
+
+// The work state goes to the start of the lent words.
+fn store(state: &mut [u64], work: Work)
+    requires { ⌜ stateWords ≤ length (now state) ⌝ }
+    ensures { λ _. ⌜ now (state .exit) ≡ storedIn (now (state .entry)) work ⌝ }
+{
+    state[N] = work.n as u64;
+    state[LIMIT] = work.limit as u64;
+    state[PLACE] = work.place as u64;
+    state[MARK] = work.mark as u64;
+    let end = work.end;
+    state[END_NUMBER] = end_number(end);
+    let table = work.table;
+    let rows = table.rows;
+    store_rows(state, rows);
+}
+
+// The number of a call; the state of a taken one goes to the lent words.
+fn hand_back(state: &mut [u64], answer: Answer, work: Work) -> u32
+    requires { ⌜ stateWords ≤ length (now state) ⌝ }
+    ensures { λ r. ⌜ (r ≡ number answer) × (now (state .exit) ≡ wordsAfter (now (state .entry)) answer work) ⌝ }
+{
+    let number = answer.number();
+    if number == 0 {
+        store(state, work);
+    }
+    number
+}
+
+// Opens a sheet. The state goes to the lent words in each case: a refused opening hands back the blank one.
+#[no_mangle]
+pub extern "C" fn loungeegret_open(
+    sheet: &[u8],
+    limit: usize,
+    state: &mut [u64],
+    place: &mut usize,
+) -> u32
+    ensures { λ r. ⌜ OpenResult (openCall (now (sheet .entry)) limit) (now (state .entry)) (now (state .exit)) (now (place .entry)) (now (place .exit)) r ⌝ }
+{
+    if state.len() < STATE_WORDS {
+        return NO_STATE;
+    }
+    let opened = sheet::open(sheet, limit);
+    let work = opened.work;
+    store(state, work);
+    *place = opened.at;
+    let answer = opened.answer;
+    answer.number()
+}
+
+#[no_mangle]
+pub extern "C" fn loungeegret_sweep(state: &mut [u64], removed: &mut u32) -> u32
+    ensures { λ r. ⌜ CallResult (sweepCall (loaded (now (state .entry)))) (now (state .entry)) (now (state .exit)) (now (removed .entry)) (now (removed .exit)) r ⌝ }
+{
+    if state.len() < STATE_WORDS {
+        return NO_STATE;
+    }
+    let swept = filter::sweep(load(state));
+    *removed = swept.removed;
+    let answer = swept.answer;
+    let work = swept.work;
+    hand_back(state, answer, work)
+}
+
+// The seed is a station's number, from 1.
+#[no_mangle]
+pub extern "C" fn loungeegret_pass(state: &mut [u64], seed: usize, removed: &mut u32) -> u32
+    ensures { λ r. ⌜ CallResult (passCall (loaded (now (state .entry))) seed) (now (state .entry)) (now (state .exit)) (now (removed .entry)) (now (removed .exit)) r ⌝ }
+{
+    if state.len() < STATE_WORDS {
+        return NO_STATE;
+    }
+    let passed = filter::pass(load(state), seed);
+    *removed = passed.removed;
+    let answer = passed.answer;
+    let work = passed.work;
+    hand_back(state, answer, work)
+}
+
+#[no_mangle]
+pub extern "C" fn loungeegret_run(
+    state: &mut [u64],
+    budget: u32,
+    steps: &mut u32,
+    removed: &mut u32,
+) -> u32
+    ensures { λ r. ⌜ RunResult (runCall (loaded (now (state .entry))) budget) (now (state .entry)) (now (state .exit)) (now (steps .entry)) (now (steps .exit)) (now (removed .entry)) (now (removed .exit)) r ⌝ }
+{
+    if state.len() < STATE_WORDS {
+        return NO_STATE;
+    }
+    let ran = filter::run(load(state), budget);
+    *steps = ran.steps;
+    *removed = ran.removed;
+    let answer = ran.answer;
+    let work = ran.work;
+    hand_back(state, answer, work)
+}
+
+// Writes 1 through `yes` where the list is a round whose legs all stand, and else 0.
+#[no_mangle]
+pub extern "C" fn loungeegret_check_list(state: &[u64], list: &[u8], yes: &mut u8) -> u32
+    ensures { λ r. ⌜ CheckResult (checkCall (loaded (now (state .entry))) (now (list .entry))) (now (state .entry)) (now (yes .entry)) (now (yes .exit)) r ⌝ }
+{
+    if state.len() < STATE_WORDS {
+        return NO_STATE;
+    }
+    let checked = load(state).check_list(list);
+    *yes = checked.yes as u8;
+    let answer = checked.answer;
+    answer.number()
+}
+
+// Writes the station lines to the start of the buffer, and through `length` how many bytes they are.
+#[no_mangle]
+pub extern "C" fn loungeegret_report(state: &[u64], buf: &mut [u8], length: &mut usize) -> u32
+    ensures { λ r. ⌜ ReportResult (reportCall (loaded (now (state .entry))) (now (buf .entry))) (reportBytes (loaded (now (state .entry))) (now (buf .entry))) (now (state .entry)) (now (buf .entry)) (now (buf .exit)) (now (length .entry)) (now (length .exit)) r ⌝ }
+{
+    if state.len() < STATE_WORDS {
+        return NO_STATE;
+    }
+    let reported = report::report(load(state), buf);
+    *length = reported.len;
+    let answer = reported.answer;
+    answer.number()
+}

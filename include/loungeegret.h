@@ -1,0 +1,104 @@
+/*
+ * loungeegret: a filter for the circuit constraint, for C and for languages that call C.
+ *
+ * `rt staticlib loungeegret` writes the archive target/staticlib/libloungeegret.a, for x86-64 Linux. It needs the C library only.
+ *
+ * The caller lends what a call reads and writes, and no call keeps a pointer. A pointer is never null, also where its length is
+ * 0, and what it points to is initialised, also where the call only writes it. What a call may write overlaps nothing else that
+ * is lent to the same call. While the call runs, nothing else writes what is lent, and nothing else reads what it may write.
+ */
+#ifndef LOUNGEEGRET_H
+#define LOUNGEEGRET_H
+
+#include <stddef.h>
+#include <stdint.h>
+
+#ifdef __cplusplus
+extern "C" {
+#endif
+
+/*
+ * The number that a call answers: 0, why it is refused, or 100.
+ *
+ * A refused call other than an opening leaves the state as it is. A call that answers 100 writes nothing at all.
+ */
+enum loungeegret_number {
+    LOUNGEEGRET_TAKEN = 0,
+    LOUNGEEGRET_CUT_SHEET = 1,     /* bytes end before the count, a map or a field is whole */
+    LOUNGEEGRET_BAD_COUNT = 2,     /* the number of stations is below 2 or above 64 */
+    LOUNGEEGRET_UNKNOWN_BIT = 3,   /* one of bits 3 to 7 of a map stands */
+    LOUNGEEGRET_STRAY_STATION = 4, /* a set has a bit above n, or a fixed field is 0 or above n */
+    LOUNGEEGRET_OVERHANG = 5,      /* bytes follow the last record */
+    LOUNGEEGRET_BAD_LIMIT = 6,     /* the separator limit is below 1 or above 64 */
+    LOUNGEEGRET_BAD_WORK = 7,      /* bad work state */
+    LOUNGEEGRET_STRAY_SEED = 8,    /* the seed is 0 or above n */
+    LOUNGEEGRET_WRONG_LENGTH = 9,  /* the list has not n numbers */
+    LOUNGEEGRET_NO_ROOM = 10,      /* the buffer is shorter than the text */
+    LOUNGEEGRET_NO_STATE = 100     /* the lent words are fewer than LOUNGEEGRET_STATE_WORDS */
+};
+
+/*
+ * The words of a state. Word i below 64 is the row of station i + 1: bit k - 1 stands for the leg from there to station k.
+ * Words that follow the state keep their contents.
+ */
+enum {
+    LOUNGEEGRET_N = 64,          /* the number of stations */
+    LOUNGEEGRET_LIMIT = 65,      /* the separator limit */
+    LOUNGEEGRET_PLACE = 66,      /* the place of the run, 0 to n */
+    LOUNGEEGRET_MARK = 67,       /* the cycle mark, 0 or 1; any other is a bad work state */
+    LOUNGEEGRET_END = 68,        /* one of the ends below; any other is a bad work state */
+    LOUNGEEGRET_STATE_WORDS = 69
+};
+
+enum loungeegret_end {
+    LOUNGEEGRET_OPEN = 0,
+    LOUNGEEGRET_STABLE = 1,
+    LOUNGEEGRET_NONE = 2
+};
+
+/* The length of the longest sheet, and of the longest station lines: those of all legs of 64 stations. */
+enum {
+    LOUNGEEGRET_SHEET_MOST = 1153,
+    LOUNGEEGRET_TEXT_MOST = 11776
+};
+
+/*
+ * Opens a sheet with a separator limit. The state is written in each case, a refused opening writes the blank one: no stations, no
+ * legs, limit 0, place 0, mark clear, open. `*place` is the place that goes with the number: the sheet's length for 1, the
+ * offending byte for 2, 3 and 5, the field's first byte for 4, otherwise 0.
+ */
+uint32_t loungeegret_open(const uint8_t *sheet, size_t sheet_length, size_t limit,
+                          uint64_t *state, size_t state_length, size_t *place);
+
+/* A sweep by hand. `*removed` is the number of legs that it removed, 0 where it is refused. */
+uint32_t loungeegret_sweep(uint64_t *state, size_t state_length, uint32_t *removed);
+
+/* A pass by hand. The seed is the number of a station, from 1. `*removed` as for a sweep. */
+uint32_t loungeegret_pass(uint64_t *state, size_t state_length, size_t seed, uint32_t *removed);
+
+/*
+ * A run of at most `budget` steps. `*steps` is the number of steps that it took and `*removed` the number of legs that it removed,
+ * both 0 where it is refused.
+ */
+uint32_t loungeegret_run(uint64_t *state, size_t state_length, uint32_t budget,
+                         uint32_t *steps, uint32_t *removed);
+
+/*
+ * `*yes` is 1 where the n numbers of the list, one byte each, are a round and each of its legs stands: after station i comes the
+ * station with the i-th number. Otherwise, and where the check is refused, it is 0.
+ */
+uint32_t loungeegret_check_list(const uint64_t *state, size_t state_length,
+                                const uint8_t *list, size_t list_length, uint8_t *yes);
+
+/*
+ * Writes the station lines to the start of the buffer; bytes after them keep their contents. `*length` is their length. A refused
+ * report writes nothing to the buffer, and its length is 0.
+ */
+uint32_t loungeegret_report(const uint64_t *state, size_t state_length,
+                            uint8_t *buf, size_t buf_length, size_t *length);
+
+#ifdef __cplusplus
+}
+#endif
+
+#endif
