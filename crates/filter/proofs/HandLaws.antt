@@ -1,18 +1,20 @@
 -- The hand rules by cases, as the code goes through them. Assumes nothing.
 use mathlib.Core.Path.{_≡_, sym, ap, ap₂, _∙_}
 use mathlib.Core.Bool.{true, false, cond}
-use Prim.Native.Nat.{ℕ, pred, _-_, _≤_}
+use mathlib.Core.List.{List}
+use Prim.Native.Nat.{ℕ, pred, _-_, _≤_, _<_}
 use native.Mathlib.Omega.{arith}
 use lib.Count.{ones}
 use lib.Dec.{ltb}
-use Rattle.bitset.specs.Sets.{outside, sum}
+use Rattle.bitset.specs.Sets.{outside, sum, size}
 use Rattle.bitset.proofs.BoolLaws.{cond-true, cond-false}
+use Rattle.bitset.proofs.SumLaws.{sum-ext}
 use Rattle.circuit.specs.declared.Work.{Work}
 use Rattle.circuit.specs.declared.Verdict.{Verdict}
 use Rattle.circuit.specs.declared.Called.{Called}
 use Rattle.circuit.specs.declared.Answer.the-variants.{Taken, BadWork, StraySeed}
-use Rattle.circuit.specs.Legs.{row, legs}
-use Rattle.circuit.specs.State.{isNone, rowsOf, bad, Good}
+use Rattle.circuit.specs.Legs.{row, legs, Subtable}
+use Rattle.circuit.specs.State.{isNone, rowsOf, stray, bad, Good}
 use Rattle.circuit.specs.Verdict.{Sound}
 use Rattle.circuit.proofs.LegsLaws.{legs-le}
 use Rattle.circuit.proofs.StateLaws.{legs-ones}
@@ -26,19 +28,25 @@ pub within : (w : Work) (v : Verdict) → Good w → Sound (w .n) (rowsOf w) v �
 within w v g s = record { clean = s .clean (g .table); sub = s .sub }
 
 -- legs before less legs after, from the counts of ones
-module _ (w : Work) (v : Verdict) (g : Good w) (i : Within w v) (a b : ℕ) (ea : a ≡ sum 64 (λ k. ones (row (rowsOf w) k))) (eb : b ≡ sum 64 (λ k. ones (row (v .left) k))) where
-  before : a ≡ legs (w .n) (rowsOf w)
-  before = ea ∙ sym (legs-ones (w .n) (rowsOf w) (g .most) (g .table))
+module _ (n : ℕ) (t u : List ℕ) (most : n ≤ 64) (clean : stray n t ≡ false) (left : stray n u ≡ false) (sub : Subtable u t) (a b : ℕ) (ea : a ≡ sum 64 (λ k. ones (row t k))) (eb : b ≡ sum 64 (λ k. ones (row u k))) where
+  before : a ≡ legs n t
+  before = ea ∙ sym (legs-ones n t most clean)
 
-  after : b ≡ legs (w .n) (v .left)
-  after = eb ∙ sym (legs-ones (w .n) (v .left) (g .most) (i .clean))
+  after : b ≡ legs n u
+  after = eb ∙ sym (legs-ones n u most left)
 
   pub fewer : b ≤ a
-  fewer = omega (arith, before, after, legs-le (w .n) (v .left) (rowsOf w) (i .sub))
+  fewer = omega (arith, before, after, legs-le n u t sub)
 
-  pub gone-is : a - b ≡ gone w v
-  unfolding gone
-  gone-is = ap₂ (λ (x y : ℕ). x - y) before after
+  pub counted : a - b ≡ legs n t - legs n u
+  counted = ap₂ (λ (x y : ℕ). x - y) before after
+
+-- the same rows have the same legs
+pub none-removed : (n : ℕ) (t u : List ℕ) → ((k : ℕ) → k < n → row t k ≡ row u k) → 0 ≡ legs n t - legs n u
+unfolding legs
+none-removed n t u same =
+    let e : legs n t ≡ legs n u = sum-ext n (λ i. size n (row t i)) (λ i. size n (row u i)) (λ k l. ap (size n) (same k l)) in
+    omega (arith, e)
 
 -- the hand rules, on an end that is not none
 module _ (w : Work) (v : Verdict) (e : isNone (w .end) ≡ false) where

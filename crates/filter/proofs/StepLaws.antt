@@ -8,7 +8,6 @@ use native.Mathlib.Numerals.{add-one}
 use native.Mathlib.Omega.{arith}
 use lib.Dec.{ltb}
 use Rattle.bitset.specs.Sets.{has, size, sum}
-use Rattle.bitset.specs.Upto.{upto}
 use Rattle.bitset.proofs.BoolLaws.{cond-true, cond-false}
 use Rattle.bitset.proofs.OnesLaws.{count-le}
 use Rattle.circuit.specs.declared.Work.{Work}
@@ -17,12 +16,12 @@ use Rattle.circuit.specs.declared.Called.{Called}
 use Rattle.circuit.specs.declared.Ran.{Ran}
 use Rattle.circuit.specs.declared.Answer.the-variants.{Taken}
 use Rattle.circuit.specs.declared.End.the-variants.{Open, Stable}
-use Rattle.circuit.specs.Legs.{row, col, legs}
-use Rattle.circuit.specs.State.{isOpen, rowsOf, moved, lastPlace, Good}
+use Rattle.circuit.specs.Legs.{row, legs, Subtable}
+use Rattle.circuit.specs.State.{isOpen, rowsOf, fresh, moved, lastPlace, Good}
 use Rattle.filter.specs.Sweep.{sweep}
 use Rattle.filter.specs.Pass.{pass}
 use Rattle.filter.specs.Calls.{gone, halted, atPlace, advanced, cycled, after, step, runFrom}
-use Rattle.filter.proofs.CallLaws.{step-leads, after-rows, run-removed}
+use Rattle.filter.proofs.CallLaws.{atPlace-sound, step-leads, run-removed}
 use Rattle.filter.proofs.RunLaws.{both, run-open, run-add, run-same}
 
 -- ---- what stands at a place
@@ -35,6 +34,19 @@ pub at-seed : (w : Work) (k : ℕ) → 0 < k → pass (w .n) (rowsOf w) (w .limi
 unfolding atPlace
 at-seed w zero l = absurd (not-suc-le-zero l)
 at-seed w (suc k) l = let e : suc k - 1 ≡ k = omega arith in ap (pass (w .n) (rowsOf w) (w .limit)) e
+
+-- the rule at a place reads n, the table and the limit only
+at-fresh : (w : Work) (k : ℕ) → atPlace (fresh (w .n) (rowsOf w) (w .limit)) k ≡ atPlace w k
+unfolding atPlace
+at-fresh w zero = refl
+at-fresh w (suc k) = refl
+
+module _ (w : Work) (none : Bool) (rows : List ℕ) (e : atPlace (fresh (w .n) (rowsOf w) (w .limit)) (w .place) ≡ record { none = none; left = rows }) where
+  pub place-verdict : record { none = none; left = rows } ≡ atPlace w (w .place)
+  place-verdict = sym e ∙ at-fresh w (w .place)
+
+  pub place-sub : Good w → Subtable rows (rowsOf w)
+  place-sub g = subst (λ (v : Verdict). Subtable (v .left) (rowsOf w)) (sym place-verdict) (atPlace-sound w g (w .place) (g .place) .sub)
 
 -- ---- the state after a step
 
@@ -67,13 +79,6 @@ unfolding step
 step-is w v u r e p q =
     ap₂ (λ (x : Work) (y : ℕ). record { answer = Taken; work = x; removed = y }) q p
     ∙ ap (λ (x : Verdict). record { answer = Taken; work = after w x; removed = gone w x }) e
-
--- the columns of what is left are those of the state after the step
-pub after-columns : (w : Work) (v : Verdict) (u : Work) (cols : List ℕ) → cols ≡ upto 64 (col (w .n) (v .left)) → u ≡ after w v → cols ≡ upto 64 (col (w .n) (rowsOf u))
-after-columns w v u cols e q = e ∙ ap (λ (t : List ℕ). upto 64 (col (w .n) t)) (sym (ap (λ (x : Work). rowsOf x) q ∙ after-rows w v))
-
-pub step-columns : (w : Work) (s : Called) (cols : List ℕ) → Good w → s ≡ step w → cols ≡ upto 64 (col (w .n) (rowsOf (s .work))) → cols ≡ upto 64 (col (s .work .n) (rowsOf (s .work)))
-step-columns w s cols g e q = q ∙ ap (λ (n : ℕ). upto 64 (col n (rowsOf (s .work)))) (sym (ap (λ (r : Called). r .work .n) e ∙ step-leads w g .stations))
 
 -- ---- how many legs there can be
 

@@ -20,15 +20,15 @@ use Rattle.separator.specs.Strike.{LevelOf}
 use Rattle.separator.proofs.ExactLaws.{level-clean}
 use Rattle.separator.proofs.InnerLaws.{innerFrom, inner-start, inner-step, inner-end}
 use Rattle.filter.specs.Pass.{passOver, pass}
-use Rattle.filter.specs.Inner.{Columned, limited, LevelTaken, LevelsTaken}
+use Rattle.filter.specs.Inner.{Columned, limited, TableTaken}
 
 -- ---- one level
 
 module _ (n limit s : ℕ) (t cols : List ℕ) (fits : s < 2 ^ n) (C : Columned n t cols) where
-  pub level-skipped : limit < ones s → LevelTaken n limit s t false t cols
+  pub level-skipped : limit < ones s → TableTaken n (limited n limit s t) false t cols
   level-skipped l = record { verdict = cond-false (level n t s) (leaves t) (ap (λ (k : ℕ). leb k limit) (size-ones n s fits) ∙ lt-leb (ones s) limit l); table = C }
 
-  pub level-taken : n ≤ 64 → ones s ≤ limit → (none : Bool) (rows after : List ℕ) → LevelOf n s t none rows after → LevelTaken n limit s t none rows after
+  pub level-taken : n ≤ 64 → ones s ≤ limit → (none : Bool) (rows after : List ℕ) → LevelOf n s t none rows after → TableTaken n (limited n limit s t) none rows after
   level-taken most l none rows after L =
       record {
         verdict = cond-true (level n t s) (leaves t) (ap (λ (k : ℕ). leb k limit) (size-ones n s fits) ∙ le-leb (ones s) limit l) ∙ L .verdict;
@@ -60,26 +60,26 @@ module _ (n limit count : ℕ) (level t : List ℕ) (most : count ≤ length lev
   passing-start cols C = record { table = C; rest = ap (λ (l : List ℕ). passOver l n limit t) (sym (inner-start count level most)) }
 
   module _ (k : ℕ) (rows cols : List ℕ) (P : Passing n limit count level t k rows cols) (none : Bool) (rows′ cols′ : List ℕ) where
-    next : k + 1 < count → LevelTaken n limit (getD level k 0) rows none rows′ cols′
+    next : k + 1 < count → TableTaken n (limited n limit (getD level k 0) rows) none rows′ cols′
         → passOver (inner (take count level)) n limit t ≡ cond none (record { none = none; left = rows′ }) (passOver (innerFrom (k + 1) count level) n limit rows′)
     next l T =
         sym (P .rest) ∙ ap (λ (x : List ℕ). passOver x n limit rows) (inner-step k count level l most) ∙ pass-cons (getD level k 0) (innerFrom (k + 1) count level) n limit rows
         ∙ ap (λ (v : Verdict). cond (v .none) v (passOver (innerFrom (k + 1) count level) n limit (v .left))) (T .verdict)
 
     -- the verdict none stops the pass
-    pub passing-none : k + 1 < count → LevelTaken n limit (getD level k 0) rows none rows′ cols′ → none ≡ true → LevelsTaken n limit count level t true rows′ cols′
-    passing-none l T e = record { verdict = next l T ∙ cond-true _ _ e ∙ ap (λ (b : Bool). record { none = b; left = rows′ }) e; columns = T .table .columns }
+    pub passing-none : k + 1 < count → TableTaken n (limited n limit (getD level k 0) rows) none rows′ cols′ → none ≡ true → TableTaken n (passOver (inner (take count level)) n limit t) true rows′ cols′
+    passing-none l T e = record { verdict = next l T ∙ cond-true _ _ e ∙ ap (λ (b : Bool). record { none = b; left = rows′ }) e; table = T .table }
 
-    pub passing-turn : k + 1 < count → LevelTaken n limit (getD level k 0) rows none rows′ cols′ → none ≡ false → Passing n limit count level t (k + 1) rows′ cols′
+    pub passing-turn : k + 1 < count → TableTaken n (limited n limit (getD level k 0) rows) none rows′ cols′ → none ≡ false → Passing n limit count level t (k + 1) rows′ cols′
     passing-turn l T e = record { table = T .table; rest = sym (next l T ∙ cond-false _ _ e) }
 
-  pub passing-end : (k : ℕ) (rows cols : List ℕ) → Passing n limit count level t k rows cols → count ≤ k + 1 → LevelsTaken n limit count level t false rows cols
+  pub passing-end : (k : ℕ) (rows cols : List ℕ) → Passing n limit count level t k rows cols → count ≤ k + 1 → TableTaken n (passOver (inner (take count level)) n limit t) false rows cols
   unfolding passOver
-  passing-end k rows cols P l = record { verdict = sym (P .rest) ∙ ap (λ (x : List ℕ). passOver x n limit rows) (inner-end k count level l); columns = P .table .columns }
+  passing-end k rows cols P l = record { verdict = sym (P .rest) ∙ ap (λ (x : List ℕ). passOver x n limit rows) (inner-end k count level l); table = P .table }
 
 -- ---- the pass
 
-pub pass-is : (n limit seed count : ℕ) (level t left : List ℕ) (none : Bool) → take count level ≡ levels n t seed
-    → passOver (inner (take count level)) n limit t ≡ record { none = none; left = left } → record { none = none; left = left } ≡ pass n t limit seed
+pub pass-is : (n limit seed count : ℕ) (level t rows cols : List ℕ) (none : Bool) → take count level ≡ levels n t seed
+    → TableTaken n (passOver (inner (take count level)) n limit t) none rows cols → TableTaken n (pass n t limit seed) none rows cols
 unfolding pass
-pass-is n limit seed count level t left none e p = sym p ∙ ap (λ (l : List ℕ). passOver (inner l) n limit t) e
+pass-is n limit seed count level t rows cols none e T = record { verdict = ap (λ (l : List ℕ). passOver (inner l) n limit t) (sym e) ∙ T .verdict; table = T .table }

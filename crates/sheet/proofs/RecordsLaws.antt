@@ -69,7 +69,7 @@ pub record SoFar (n : ℕ) (s next barred : List ℕ) (at i : ℕ) : Type 0 wher
   pub within : at ≤ length s
   pub lengths : (length next ≡ 64) × (length barred ≡ 64)
   pub follow : take i next ≡ map nextOf entries
-  pub bars : take i barred ≡ map barredOf entries
+  pub bars : take i barred ≡ map (barredOf n) entries
 
 pub so-far-none : (n : ℕ) (s next barred : List ℕ) → 1 ≤ length s → length next ≡ 64 → length barred ≡ 64 → SoFar n s next barred 1 0
 unfolding readEntries
@@ -81,7 +81,7 @@ store : (f : Entry → ℕ) (es : List Entry) (e : Entry) (l : List ℕ) (i v : 
 store f es e l i v h p q = rw (add-one, take-suc-set l i v h, p, q, map-append)
 
 module _ {n : ℕ} {s next barred : List ℕ} {at i : ℕ} (h : SoFar n s next barred at i) where
-  pub so-far-more : {len : ℕ} (p : GotAt (readEntry n (drop at s)) (drop at s) len) (v w : ℕ) → v ≡ nextOf (p .value) → w ≡ barredOf (p .value) → i < 64
+  pub so-far-more : {len : ℕ} (p : GotAt (readEntry n (drop at s)) (drop at s) len) (v w : ℕ) → v ≡ nextOf (p .value) → w ≡ barredOf n (p .value) → i < 64
       → SoFar n s (set next i v) (set barred i w) (at + len) (i + 1)
   so-far-more {len} p v w ev ew l =
       record {
@@ -91,7 +91,7 @@ module _ {n : ℕ} {s next barred : List ℕ} {at i : ℕ} (h : SoFar n s next b
         within = omega (arith, h .within, p .within, length-drop at s);
         lengths = (length-set next i v ∙ h .lengths .0, length-set barred i w ∙ h .lengths .1);
         follow = store nextOf (h .entries) (p .value) next i v (omega (arith, h .lengths .0)) (h .follow) ev;
-        bars = store barredOf (h .entries) (p .value) barred i w (omega (arith, h .lengths .1)) (h .bars) ew;
+        bars = store (barredOf n) (h .entries) (p .value) barred i w (omega (arith, h .lengths .1)) (h .bars) ew;
       }
 
   pub so-far-fault : {a : Answer} {k : ℕ} (limit : ℕ) → i < n → FaultAt (readEntry n (drop at s)) (drop at s) a k
@@ -119,5 +119,5 @@ module _ {n : ℕ} {s next barred : List ℕ} {at : ℕ} (limit : ℕ) (h : SoFa
   unfolding opened readEnd
   so-far-whole l le =
       let t : tableOf n (legal next barred) ≡ tableOf n (given page) =
-      legal-given page next barred le (mapped-at nextOf (h .entries) next n (h .count) (h .follow)) (mapped-at barredOf (h .entries) barred n (h .count) (h .bars)) in
+      legal-given page next barred le (mapped-at nextOf (h .entries) next n (h .count) (h .follow)) (mapped-at (barredOf n) (h .entries) barred n (h .count) (h .bars)) in
       rw (h .is, drop-of-length-le s l, t)

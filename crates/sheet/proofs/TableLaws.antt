@@ -83,9 +83,9 @@ tableOf-ext n p q f =
 
 -- ---- the words of a page
 
--- the stations that may not come before the station of a record
-abbrev pub barredOf : Entry → ℕ
-barredOf e = (2 ^ 64 - 1) - prevOf e
+-- the stations below n that may not come before the station of a record
+abbrev pub barredOf : ℕ → Entry → ℕ
+barredOf n e = bitAnd (setOf 64 (λ j. ltb j n)) ((2 ^ 64 - 1) - prevOf e)
 
 -- the record that says nothing
 abbrev free : Entry
@@ -107,7 +107,7 @@ regroup false b c d = refl
 
 module _ (p : Page) (next barred : List ℕ) (le : p .stations ≤ 64)
     (follow : (k : ℕ) → k < p .stations → getD next k 0 ≡ nextOf (getD (p .entries) k free))
-    (bars : (k : ℕ) → k < p .stations → getD barred k 0 ≡ barredOf (getD (p .entries) k free))
+    (bars : (k : ℕ) → k < p .stations → getD barred k 0 ≡ barredOf (p .stations) (getD (p .entries) k free))
   where
     leg-given : (i j : ℕ) → i < p .stations → j < p .stations → legal next barred i j ≡ given p i j
     unfolding given entryAt
@@ -117,7 +117,8 @@ module _ (p : Page) (next barred : List ℕ) (le : p .stations ≤ 64)
         let passes : ℕ → Bool = λ k. allows (e .next) k && fixes (e .fixed) k in
         let here : has (getD next i 0) j ≡ passes j = ap (λ (w : ℕ). has w j) (follow i hi) ∙ has-setOf 64 passes j (lt-of-lt-of-le hj le) in
         let there : has (getD barred j 0) i ≡ not (allows (f .prev) i) =
-        ap (λ (w : ℕ). has w i) (bars j hj)
+        ap (λ (w : ℕ). has w i) (bars j hj) ∙ has-and (setOf 64 (λ k. ltb k (p .stations))) ((2 ^ 64 - 1) - prevOf f) i
+        ∙ ap (λ (b : Bool). b && has ((2 ^ 64 - 1) - prevOf f) i) (has-setOf 64 (λ k. ltb k (p .stations)) i (lt-of-lt-of-le hi le) ∙ lt-ltb i (p .stations) hi)
         ∙ (has-not 64 (prevOf f) i (setOf-lt 64 (allows (f .prev))) (lt-of-lt-of-le hi le) ∙ ap not (has-setOf 64 (allows (f .prev)) i (lt-of-lt-of-le hi le))) in
         rw (here, there) (regroup (not (eqb i j)) (allows (e .next) j) (allows (f .prev) i) (fixes (e .fixed) j))
 

@@ -26,7 +26,10 @@ Each cell: time per call of the proved library / of the fast calls = ratio.
 
 fn main() {
     println!("{NOTES}");
-    println!("- Median of {REPETITIONS} repetitions; mean over {TABLES} tables, for a pass over all seeds too.");
+    println!(
+        "- Median of {REPETITIONS} repetitions; mean over {TABLES} tables, \
+         for a pass over all seeds too."
+    );
     let shapes = SHAPES.map(Shape::inputs);
     let mut worst = Worst::default();
     for call in [Timed::Open, Timed::Sweep, Timed::Pass, Timed::Run] {

@@ -32,10 +32,10 @@ impl Made {
 /// Small tables have the most surprises; large ones reach the last bits.
 fn size(rng: &mut Xorshift) -> usize {
     match rng.below(20) {
-        0..=10 => rng.between(2, 8),
-        11..=15 => rng.between(9, 24),
-        16..=18 => rng.between(25, 64),
-        _ => rng.pick(&[31, 32, 33, 63, 64]),
+        0..=9 => rng.between(2, 8),
+        10..=14 => rng.between(9, 24),
+        15..=17 => rng.between(25, 64),
+        _ => rng.pick(&[31, 32, 33, 63, 64, 64]),
     }
 }
 

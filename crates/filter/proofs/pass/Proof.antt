@@ -4,6 +4,7 @@ use mathlib.Core.Path.{_≡_, sym, ap, subst, _∙_}
 use mathlib.Core.Bool.{false}
 use Prim.Native.Nat.{ℕ, pred, _-_, _≤_}
 use native.Mathlib.Omega.{arith}
+use lib.ListN.{length}
 use Rattle.bitset.specs.Sets.{outside}
 use Rattle.circuit.specs.declared.Work.{Work}
 use Rattle.circuit.specs.declared.Verdict.{Verdict}
@@ -71,34 +72,36 @@ columns-requires : tie.Need-columns-requires
 columns-requires c κs = sure (c .before .before .before .before .before) .state .most
 
 sub-pass-on : tie.Need-sub-pass-on
-sub-pass-on c = sure (c .before .before .before .before .before .before .before) .least
+sub-pass-on c = sure (c .before .before .before .before .before .before .before .before) .least
 
 pass-on-requires : tie.Need-pass-on-requires
 pass-on-requires c κs =
-    let k = c .before in
+    let k = c .before .before in
     let s = sure (k .before .before .before .before .before .before) in
-    (s .state .most, s .state .table, omega (arith, s .least, s .most), k .columns .ensures)
+    let start = k .before .before .before .before .before .before .before .before .before in
+    let len : length (rowsOf (start .args .work)) ≡ 64 = (let known = start .good in search needs) in
+    (s .state .most, omega (arith, s .least, s .most), record { clean = s .state .table; len = len; columns = k .columns .ensures })
 
 by-hand-requires : tie.Need-by-hand-requires
 by-hand-requires c κs =
-    let e = c .before .before .before .before .before .before in
+    let e = c .before .before .before .before .before .before .before in
     let s = sure (e .before .before) in
     let a = e .before .before .before .before .before .args in
     let w = a .work in (
       s .state,
-      subst (λ (v : Verdict). Within w v) (sym (c .pass-on .ensures .0 ∙ ap (pass (w .n) (rowsOf w) (w .limit)) (s .index)))
+      subst (λ (v : Verdict). Within w v) (ap (pass (w .n) (rowsOf w) (w .limit)) (sym (s .index)) ∙ c .pass-on .ensures .verdict)
           (within w (pass (w .n) (rowsOf w) (w .limit) (pred (a .seed))) (s .state) (pass-sound (w .n) (rowsOf w) (w .limit) (pred (a .seed)) (omega (arith, s .least, s .most)) (s .state .most))),
       sym (e .before .is-none .ensures) ∙ e .if3 .left,
     )
 
 returns-4 : tie.Need-returns-4
 returns-4 c =
-    let e = c .before .before .before .before .before .before .before in
+    let e = c .before .before .before .before .before .before .before .before in
     let s = sure (e .before .before) in
     let a = e .before .before .before .before .before .args in
     let w = a .work in
     pass-good w (a .seed) (s .not-bad) (s .not-stray) (c .by-hand .result)
-    (c .by-hand .ensures ∙ ap (byHand w) (c .before .pass-on .ensures .0 ∙ ap (pass (w .n) (rowsOf w) (w .limit)) (s .index)))
+    (c .by-hand .ensures ∙ ap (byHand w) (sym (ap (pass (w .n) (rowsOf w) (w .limit)) (sym (s .index)) ∙ c .before .pass-on .ensures .verdict)))
 
 pub pass-spec : {M : Type 1} → statement M
 pass-spec =

@@ -11,7 +11,7 @@ use Rattle.filter.proofs.pass_on.Tie as tie
 neighbours-requires : tie.Need-neighbours-requires
 neighbours-requires c κs =
     let s = c .before .before in
-    (s .pre .0, stray-row (s .args .n) (s .args .t1) (s .pre .0) (s .pre .1), s .pre .3)
+    (s .pre .0, stray-row (s .args .n) _ (s .pre .0) (s .pre .2 .clean), s .pre .2 .columns)
 
 levels-from-requires : tie.Need-levels-from-requires
 levels-from-requires c κs = search needs
@@ -22,24 +22,17 @@ take-levels-requires c κs =
     let nbr = found .before .before in
     let s = nbr .before .before .before in
     let n = s .args .n in
-    let of = found .levels-from .ensures .1 n (s .args .t1) (nbr .neighbours .ensures) (s .pre .2) in
+    let of = found .levels-from .ensures .1 n (s .args .rows .now) (nbr .neighbours .ensures) (s .pre .1) in
     let long : length (found .levels-from .result .level) ≡ 64 = (let ok = found .levels-from .ok in search needs) in
-    let len : length (s .args .t1) ≡ 64 = search needs in (
-      s .pre .0,
-      found .levels-from .ensures .0,
-      long,
-      level-below n (s .args .t1) (s .args .seed) _ _ (of .1) (s .pre .2),
-      record { clean = s .pre .1; len = len; columns = s .pre .3 },
-    )
+    (s .pre .0, found .levels-from .ensures .0, long, level-below n (s .args .rows .now) (s .args .seed) _ _ (of .1) (s .pre .1), s .pre .2)
 
 returns : tie.Need-returns
 returns c =
     let found = c .before .before .before .before .before in
     let nbr = found .before .before in
     let s = nbr .before .before .before in
-    let of = found .levels-from .ensures .1 (s .args .n) (s .args .t1) (nbr .neighbours .ensures) (s .pre .2) in
-    let taken = c .take-levels .ensures in
-    (pass-is (s .args .n) (s .args .limit) (s .args .seed) (found .levels-from .result .count) (found .levels-from .result .level) (s .args .t1) _ _ (of .1) (taken .verdict), taken .columns)
+    let of = found .levels-from .ensures .1 (s .args .n) (s .args .rows .now) (nbr .neighbours .ensures) (s .pre .1) in
+    pass-is (s .args .n) (s .args .limit) (s .args .seed) (found .levels-from .result .count) (found .levels-from .result .level) (s .args .rows .now) _ _ _ (of .1) (c .take-levels .ensures)
 
 pub pass-on-spec : {M : Type 1} → statement M
 pass-on-spec =

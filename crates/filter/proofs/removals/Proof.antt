@@ -1,8 +1,16 @@
 -- `filter::removals` meets its contract.
 use borrow.Author.Needs.{needs}
-use Rattle.filter.proofs.HandLaws.{fewer, gone-is}
+use Rattle.filter.proofs.HandLaws.{fewer, counted, none-removed}
 use Rattle.filter.proofs.removals.Statement.{statement}
 use Rattle.filter.proofs.removals.Tie as tie
+
+same-rows-requires : tie.Need-same-rows-requires
+same-rows-requires c κs = search needs
+
+returns : tie.Need-returns
+returns c =
+    let s = c .before .before in
+    none-removed (s .args .n) _ _ (c .before .same-rows .ensures (c .if1 .taken))
 
 legs-requires : tie.Need-legs-requires
 legs-requires c κs = search needs
@@ -12,13 +20,15 @@ legs-requires-2 c κs = search needs
 
 sub-result : tie.Need-sub-result
 sub-result c =
-    let s = c .before .before .before .before .before .before .before in
-    fewer (s .args .w) (s .args .v) (s .pre .0) (s .pre .1) _ _ (c .before .before .legs .ensures .0) (c .legs2 .ensures .0)
+    let s = c .before .before .before .before in
+    fewer (s .args .n) _ _ (s .pre .0) (s .pre .1) (s .pre .2) (s .pre .3) _ _ (c .before .legs .ensures .0) (c .legs2 .ensures .0)
 
-returns : tie.Need-returns
-returns c =
-    let s = c .before .before .before .before .before .before .before in
-    gone-is (s .args .w) (s .args .v) (s .pre .0) (s .pre .1) _ _ (c .before .before .legs .ensures .0) (c .legs2 .ensures .0)
+returns-2 : tie.Need-returns-2
+returns-2 c =
+    let s = c .before .before .before .before in
+    counted (s .args .n) _ _ (s .pre .0) (s .pre .1) (s .pre .2) (s .pre .3) _ _ (c .before .legs .ensures .0) (c .legs2 .ensures .0)
 
 pub removals-spec : {M : Type 1} → statement M
-removals-spec = tie.close (tie.spec legs-requires legs-requires-2 sub-result returns)
+removals-spec =
+    tie.close
+    (tie.spec same-rows-requires returns legs-requires legs-requires-2 sub-result returns-2)

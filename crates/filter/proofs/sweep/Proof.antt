@@ -1,6 +1,7 @@
 -- `filter::sweep` meets its contract.
 use borrow.Author.Needs.{needs}
-use mathlib.Core.Path.{sym, ap, subst, _∙_}
+use mathlib.Core.Path.{_≡_, sym, ap, subst, _∙_}
+use lib.ListN.{length}
 use Rattle.circuit.specs.declared.Verdict.{Verdict}
 use Rattle.circuit.specs.State.{rowsOf, Good}
 use Rattle.circuit.proofs.StateLaws.{good}
@@ -46,26 +47,28 @@ columns-requires c κs = sure (c .before .before .before) .most
 
 sweep-rows-requires : tie.Need-sweep-rows-requires
 sweep-rows-requires c κs =
-    let k = c .before in
+    let k = c .before .before in
     let g = sure (k .before .before .before .before) in
-    (g .most, g .table, k .columns .ensures)
+    let w = k .before .before .before .before .before .before .before .before .args .work in
+    let len : length (rowsOf w) ≡ 64 = search needs in
+    (g .most, record { clean = g .table; len = len; columns = k .columns .ensures })
 
 by-hand-requires : tie.Need-by-hand-requires
 by-hand-requires c κs =
-    let e = c .before .before .before .before .before .before in
+    let e = c .before .before .before .before .before .before .before in
     let w = e .before .before .before .before .args .work in
     let g = sure e in (
       g,
-      subst (λ (v : Verdict). Within w v) (sym (c .sweep-rows .ensures)) (within w (sweep (w .n) (rowsOf w)) g (sweep-sound (w .n) (rowsOf w) (g .most))),
+      subst (λ (v : Verdict). Within w v) (c .sweep-rows .ensures .verdict) (within w (sweep (w .n) (rowsOf w)) g (sweep-sound (w .n) (rowsOf w) (g .most))),
       sym (e .before .is-none .ensures) ∙ e .if2 .left,
     )
 
 returns-3 : tie.Need-returns-3
 returns-3 c =
-    let e = c .before .before .before .before .before .before .before in
+    let e = c .before .before .before .before .before .before .before .before in
     let b = e .before .before .before in
     let w = b .before .args .work in
-    sweep-good w (sym (b .is-bad .ensures) ∙ e .before .before .if1 .left) (c .by-hand .result) (c .by-hand .ensures ∙ ap (byHand w) (c .before .sweep-rows .ensures))
+    sweep-good w (sym (b .is-bad .ensures) ∙ e .before .before .if1 .left) (c .by-hand .result) (c .by-hand .ensures ∙ ap (byHand w) (sym (c .before .sweep-rows .ensures .verdict)))
 
 pub sweep-spec : {M : Type 1} → statement M
 sweep-spec =

@@ -1,7 +1,12 @@
 -- `filter::sweep_rows` meets its contract.
 use borrow.Author.Needs.{needs}
-use denote.Ref.{now}
-use Rattle.filter.proofs.SweptLaws.{of-columns, sweep-none, sweep-left}
+use mathlib.Core.Path.{sym, ap, _∙_}
+use lib.ListN.{length}
+use Rattle.bitset.proofs.UptoLaws.{length-upto}
+use Rattle.circuit.specs.declared.Verdict.{Verdict}
+use Rattle.circuit.specs.State.{stray}
+use Rattle.filter.proofs.SweepLaws.{sweep-sound}
+use Rattle.filter.proofs.SweptLaws.{sweptRow, swept-rows, of-columns, sweep-none, sweep-left}
 use Rattle.filter.proofs.sweep_rows.Statement.{statement}
 use Rattle.filter.proofs.sweep_rows.Tie as tie
 
@@ -16,27 +21,42 @@ returns c =
     let prev = c .before .before .before in
     let next = prev .before in
     let s = next .before .before in
-    sweep-none (s .args .n) (s .args .t1) (s .pre .0) (s .pre .1) (next .single-words .result) (prev .single-words2 .result) (next .single-words .ensures)
-    (now (s .args .cols)) (s .pre .2) (prev .single-words2 .ensures) (c .if1 .taken)
+    let C = s .pre .1 in
+    record {
+      verdict = sym (sweep-none (s .args .n) (s .args .rows .now) (s .pre .0) (C .clean) (next .single-words .result) (prev .single-words2 .result) (next .single-words .ensures) (s .args .cols .now) (C .columns) (prev .single-words2 .ensures) (c .if1 .taken));
+      clean = C .clean;
+      len = C .len;
+    }
 
-swept-table-requires : tie.Need-swept-table-requires
-swept-table-requires c κs =
-    let prev = c .before .before .before in
+sweep-words-requires : tie.Need-sweep-words-requires
+sweep-words-requires c κs =
+    let prev = c .before .before .before .before in
     let next = prev .before in
-    let s = next .before .before in (
+    let s = next .before .before in
+    let C = s .pre .1 in (
       s .pre .0,
-      s .pre .1,
+      C .len,
+      C .clean,
       next .single-words .ensures,
-      of-columns (s .args .n) (s .args .t1) (s .pre .0) (s .pre .1) (next .single-words .result) (prev .single-words2 .result) (next .single-words .ensures) (now (s .args .cols)) (s .pre .2) (prev .single-words2 .ensures),
+      of-columns (s .args .n) (s .args .rows .now) (s .pre .0) (C .clean) (next .single-words .result) (prev .single-words2 .result) (next .single-words .ensures) (s .args .cols .now) (C .columns) (prev .single-words2 .ensures),
     )
 
 returns-2 : tie.Need-returns-2
 returns-2 c =
-    let prev = c .before .before .before .before in
+    let prev = c .before .before .before .before .before in
     let next = prev .before in
     let s = next .before .before in
-    sweep-left (s .args .n) (s .args .t1) (s .pre .0) (s .pre .1) (next .single-words .result) (prev .single-words2 .result) (next .single-words .ensures)
-    (now (s .args .cols)) (s .pre .2) (prev .single-words2 .ensures) (c .before .if1 .left) (c .swept-table .result) (c .swept-table .ensures)
+    let n = s .args .n in
+    let t = s .args .rows .now in
+    let C = s .pre .1 in
+    let is = sweep-left n t (s .pre .0) (C .clean) (next .single-words .result) (prev .single-words2 .result) (next .single-words .ensures) (s .args .cols .now) (C .columns) (prev .single-words2 .ensures) (c .before .before .if1 .left) _ (c .sweep-words .ensures) in
+    record {
+      verdict = sym is;
+      clean = ap (λ (v : Verdict). stray n (v .left)) is ∙ sweep-sound n t (s .pre .0) .clean (C .clean);
+      len = ap length (c .sweep-words .ensures ∙ sym (swept-rows n t)) ∙ length-upto 64 (sweptRow n t);
+    }
 
 pub sweep-rows-spec : {M : Type 1} → statement M
-sweep-rows-spec = tie.close (tie.spec single-words-requires single-words-requires-2 returns swept-table-requires returns-2)
+sweep-rows-spec =
+    tie.close
+    (tie.spec single-words-requires single-words-requires-2 returns sweep-words-requires returns-2)

@@ -1,9 +1,10 @@
 -- `sheet::open_records` meets its contract. The invariant: the records that were read so far. Assumes nothing.
 use borrow.Author.Needs.{needs}
-use mathlib.Core.Path.{refl, sym, ap, _∙_}
+use mathlib.Core.Path.{refl, sym, ap, ap₂, _∙_}
 use mathlib.Core.List.{List}
 use Prim.Native.Nat.{ℕ, _-_, _≤_}
 use native.Mathlib.Omega.{arith}
+use lib.Bits.{bitAnd}
 use lib.ListN.{drop, length-drop}
 use Rattle.circuit.specs.declared.Answer.the-variants.{Taken}
 use Rattle.circuit.specs.declared.Opened.{Opened}
@@ -75,6 +76,9 @@ mul-next c = search needs
 array-write-next : tie.Need-array-write-next Inv-loop μ-loop
 array-write-next c = search needs
 
+full-requires : tie.Need-full-requires Inv-loop μ-loop
+full-requires c κs = search needs
+
 mul-barred : tie.Need-mul-barred Inv-loop μ-loop
 mul-barred c = search needs
 
@@ -83,8 +87,8 @@ array-write-barred c = search needs
 
 add-at : tie.Need-add-at Inv-loop μ-loop
 add-at c =
-    let e = c .before .before .before .before .before .before .before in
-    omega (arith, whole (c .before .before) .0 .within, length-drop (e .before .loop .at) (sheet e), e .before .loop .inv .1 .within, e .before .before .before .good)
+    let e = c .before .before .before .before .before .before .before .before in
+    omega (arith, whole (c .before .before .before) .0 .within, length-drop (e .before .loop .at) (sheet e), e .before .loop .inv .1 .within, e .before .before .before .good)
 
 add-i : tie.Need-add-i Inv-loop μ-loop
 add-i c = search needs
@@ -94,9 +98,9 @@ loop-less c = search needs
 
 loop-again : tie.Need-loop-again Inv-loop μ-loop
 loop-again c =
-    let l = c .before .before .before .before .before .before .before .before .loop in
-    let r = whole (c .before .before) in
-    (omega arith, so-far-more (l .inv .1) (r .0) _ _ (r .1) (ap (λ (w : ℕ). 18446744073709551615 - w) (r .2)) (omega arith))
+    let l = c .before .before .before .before .before .before .before .before .before .loop in
+    let r = whole (c .before .before .before) in
+    (omega arith, so-far-more (l .inv .1) (r .0) _ _ (r .1) (ap₂ (λ (f w : ℕ). bitAnd f (18446744073709551615 - w)) (c .before .before .full .ensures) (r .2)) (omega arith))
 
 enum-known-read-2 : tie.Need-enum-known-read-2 Inv-loop μ-loop
 enum-known-read-2 c = search needs
@@ -150,6 +154,7 @@ open-records-spec =
     enum-known-read
     mul-next
     array-write-next
+    full-requires
     mul-barred
     array-write-barred
     add-at
