@@ -12,11 +12,11 @@ use lib.Dec.{eqb, ltb}
 use lib.ListN.{getD}
 use lib.Pow.{pow-lt}
 use borrow.Author.Tests.{eqb-true, eqb-false, eq-eqb, ne-eqb, lt-ltb, le-ltb, not-true}
-use Rattle.bitset.specs.Sets.{has, any}
+use Rattle.bitset.specs.Sets.{has, any, setOf}
 use Rattle.bitset.proofs.BoolLaws.{iff, not-both, clash, cases, and-intro, and-l, and-r, cond-true, cond-false, cond-elim, taut2}
 use Rattle.bitset.proofs.QuantLaws.{below?, any-intro, any-elim}
 use Rattle.bitset.proofs.HasLaws.{has-zero, has-and, has-or}
-use Rattle.bitset.proofs.SetLaws.{has-self, has-diff}
+use Rattle.bitset.proofs.SetLaws.{has-self, has-setOf, has-diff}
 use Rattle.bitset.proofs.OnesLaws.{ones-pow, ones-zero, pow-within, within-eq}
 use Rattle.filter.specs.declared.Singles.{Singles}
 use Rattle.filter.specs.Singles.{single, only, SinglesOf, keeps}
@@ -43,12 +43,12 @@ single-some x =
 
 -- the word at k joins
 pub singles-turn : (words : List ℕ) (k which w : ℕ) (r : Singles) → w ≡ cond (single (getD words k 0)) (getD words k 0) 0
-    → ((j : ℕ) → has which j ≡ has (r .which) j || eqb j k && ltb 0 w) → SinglesOf k words r
+    → which ≡ setOf 64 (λ j. has (r .which) j || eqb j k && ltb 0 w) → SinglesOf k words r
     → SinglesOf (k + 1) words (record { empty = r .empty || eqb (getD words k 0) 0; which = which; once = bitOr (r .once) w; twice = bitOr (r .twice) (bitAnd (r .once) w) })
 singles-turn words k which w r e gives s =
     record {
       empty = ap (λ (b : Bool). b || eqb (getD words k 0) 0) (s .empty) ∙ sym (any-next k (λ m. eqb (getD words m 0) 0));
-      which = λ j l. gives j ∙ ap (λ (b : Bool). b || eqb j k && ltb 0 w) (s .which j l) ∙ ⊎-elim (here j) (other j) (cases (eqb j k));
+      which = λ j l. ap (λ (x : ℕ). has x j) gives ∙ has-setOf 64 (λ j. has (r .which) j || eqb j k && ltb 0 w) j l ∙ ap (λ (b : Bool). b || eqb j k && ltb 0 w) (s .which j l) ∙ ⊎-elim (here j) (other j) (cases (eqb j k));
       once = λ j l. has-or (r .once) w j ∙ ap₂ (λ (a b : Bool). a || b) (s .once j l) (at j) ∙ sym (any-next k (only words j));
       twice = λ j l.
           has-or (r .twice) (bitAnd (r .once) w) j

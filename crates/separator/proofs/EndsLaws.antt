@@ -6,20 +6,19 @@ use mathlib.Core.List.{List}
 use Prim.Native.Nat.{ℕ, _-_, _*_, _%_, _^_, _<_}
 use native.Mathlib.Omega.{arith}
 use lib.Dec.{eqb, ltb}
-use lib.Pow.{pow-lt}
 use lib.Bits.{bitAnd, bitOr, and-le-l, and-le-r, or-lt}
 use lib.Count.{trailingZeros}
 use lib.ListN.{getD}
 use borrow.Author.Tests.{eq-eqb, eqb-true, ltb-true, lt-ltb}
 use Rattle.bitset.specs.Sets.{has, setOf, any, meet}
-use Rattle.bitset.proofs.BoolLaws.{iff, is-false, and-intro, and-l, and-r, taut2, taut3}
+use Rattle.bitset.proofs.BoolLaws.{iff, and-intro, and-l, and-r, taut2, taut3}
 use Rattle.bitset.proofs.HasLaws.{has-zero, has-and, has-or}
 use Rattle.bitset.proofs.SetLaws.{has-setOf, setOf-lt, eq-setOf, meet-intro}
 use Rattle.bitset.proofs.OnesLaws.{has-pos}
 use Rattle.bitset.proofs.QuantLaws.{any-intro, any-elim, any-none, any-ext}
 use Rattle.bitset.proofs.LeastLaws.{trailing-least, has-clear}
 use Rattle.bitset.proofs.MemberLaws.{any-least, any-empty}
-use Rattle.bitset.proofs.MachineLaws.{shl-one, has-insert, has-remove}
+use Rattle.bitset.proofs.MachineLaws.{shl-one, has-remove}
 use Rattle.circuit.specs.Legs.{row, leg, col}
 use Rattle.separator.specs.Level.{stands}
 use Rattle.separator.specs.Spares.{pair, markAt, through, bare, entered, EndsOf}
@@ -55,19 +54,6 @@ unfolding meet
 meet-none a w e = any-none 64 (λ k. has a k && has w k) (λ k l. sym (has-and a w k) ∙ ap (λ (x : ℕ). has x k) e ∙ has-zero k)
 
 -- ---- the small functions
-
-pub tail-more : (w i e : ℕ) → w < 2 ^ 64 → i < 64 → 0 < e → bitOr w ((1 * 2 ^ i) % 2 ^ 64) ≡ setOf 64 (λ k. has w k || eqb k i && ltb 0 e)
-tail-more w i e h l p =
-    ap (bitOr w) (shl-one 64 i l)
-    ∙ eq-setOf 64 (bitOr w (2 ^ i)) _ (or-lt 64 w (2 ^ i) h (pow-lt l))
-    (λ k lk. has-insert w i k
-    ∙ ap (λ (x : Bool). has w k || x) (iff (eqb k i) (eqb k i && ltb 0 e) (λ q. and-intro q (lt-ltb 0 e p)) (and-l (eqb k i) (ltb 0 e))))
-
-pub tail-same : (w i e : ℕ) → w < 2 ^ 64 → e ≡ 0 → w ≡ setOf 64 (λ k. has w k || eqb k i && ltb 0 e)
-tail-same w i e h z =
-    eq-setOf 64 w _ h (λ k l.
-    let none : eqb k i && ltb 0 e ≡ true → ⊥ = λ q. let p = ltb-true 0 e (and-r (eqb k i) (ltb 0 e) q) in omega arith in
-    sym (ap (λ (x : Bool). has w k || x) (is-false (eqb k i && ltb 0 e) none) ∙ or-false (has w k)))
 
 pub entered-is : (t : List ℕ) (s w u : ℕ) → s < 2 ^ 64 → u ≡ setOf 64 (λ k. any 64 (λ i. has w i && has (getD t i 0) k))
     → bitAnd u s ≡ entered t s w

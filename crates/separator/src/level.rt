@@ -1,8 +1,7 @@
 // One level s: the marks on its pairs of stations, the choices that use every component, and the legs that go.
 ghost use mathlib.Core.Path.{_≡_};
-ghost use mathlib.Core.Bool.{true, false, _&&_, _||_};
+ghost use mathlib.Core.Bool.{true, false};
 ghost use Prim.Native.Nat.{ℕ, _^_, _<_, _≤_};
-ghost use lib.Dec.{eqb, ltb};
 ghost use lib.ListN.{length, take};
 ghost use Rattle.bitset.specs.Sets.{has, setOf};
 ghost use Rattle.circuit.specs.State.{stray};
@@ -21,18 +20,6 @@ pub struct Spares {
 struct Ends {
     tails: u64,
     heads: u64,
-}
-
-// The tails, with i too if it has heads.
-fn with_tail(tails: u64, i: usize, heads: u64) -> u64
-    requires { ⌜ i < 64 ⌝ }
-    ensures { λ r. ⌜ r ≡ setOf 64 (λ k. has tails k || eqb k i && ltb 0 heads) ⌝ }
-{
-    if heads != 0 {
-        tails | (1u64 << i)
-    } else {
-        tails
-    }
 }
 
 // The stations of s that have a leg from the component.
@@ -73,7 +60,7 @@ fn ends_through(rows: &[u64; 64], s: u64, part: u64) -> Ends
     while rest != 0 {
         let i = u64::trailing_zeros(rest) as usize;
         let more = heads_through(rows, s, part, last, i);
-        tails = with_tail(tails, i, more);
+        tails = bitset::insert_if(tails, i, more);
         heads |= more;
         rest &= rest - 1;
     }
@@ -90,7 +77,7 @@ fn ends_bare(rows: &[u64; 64], s: u64) -> Ends
     while rest != 0 {
         let i = u64::trailing_zeros(rest) as usize;
         let more = heads_bare(rows, s, i);
-        tails = with_tail(tails, i, more);
+        tails = bitset::insert_if(tails, i, more);
         heads |= more;
         rest &= rest - 1;
     }

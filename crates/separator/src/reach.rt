@@ -44,14 +44,7 @@ pub fn neighbours(rows: &[u64; 64], cols: &[u64; 64], n: usize) -> [u64; 64]
 fn neighbourhood(nbr: &[u64; 64], set: u64) -> u64
     ensures { λ r. ⌜ ((n : ℕ) (t : List ℕ) → Linked n t (now (nbr .entry)) → set < 2 ^ n → r ≡ neighbourhood n t set) ⌝ }
 {
-    let mut rest = set;
-    let mut out: u64 = 0;
-    while rest != 0 {
-        let i = u64::trailing_zeros(rest) as usize;
-        out = bitset::union(out, nbr[i]);
-        rest &= rest - 1;
-    }
-    out
+    bitset::union_of_rows(nbr, set)
 }
 
 // The levels from a seed: each is the neighbours of the last one that no level has yet.

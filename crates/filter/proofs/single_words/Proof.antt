@@ -28,8 +28,8 @@ element-copy-out-word c = omega arith
 only-member-requires : tie.Need-only-member-requires Inv-loop μ-loop
 only-member-requires c κs = search needs
 
-with-if-requires : tie.Need-with-if-requires Inv-loop μ-loop
-with-if-requires c κs = omega arith
+insert-if-requires : tie.Need-insert-if-requires Inv-loop μ-loop
+insert-if-requires c κs = omega arith
 
 add-k : tie.Need-add-k Inv-loop μ-loop
 add-k c = omega arith
@@ -44,7 +44,7 @@ loop-again c =
       omega arith,
       or-lt 64 (v .once) (w .result) (v .inv .1) (w .ok),
       or-lt 64 (v .twice) (bitAnd (v .once) (w .result)) (v .inv .2) (omega (arith, and-le-l (v .once) (w .result), v .inv .1)),
-      singles-turn _ (v .k) _ (w .result) _ (w .ensures) (c .with-if .ensures) (v .inv .3),
+      singles-turn _ (v .k) _ (w .result) _ (w .ensures) (c .insert-if .ensures) (v .inv .3),
     )
 
 returns : tie.Need-returns Inv-loop μ-loop
@@ -64,7 +64,7 @@ single-words-spec =
     mul-word
     element-copy-out-word
     only-member-requires
-    with-if-requires
+    insert-if-requires
     add-k
     loop-less
     loop-again

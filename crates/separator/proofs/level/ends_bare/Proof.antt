@@ -37,8 +37,8 @@ cast-i c = omega (arith, low c)
 heads-bare-requires : tie.Need-heads-bare-requires Inv-loop μ-loop
 heads-bare-requires c κs = (low c, member c)
 
-with-tail-requires : tie.Need-with-tail-requires Inv-loop μ-loop
-with-tail-requires c κs = low (c .before)
+insert-if-requires : tie.Need-insert-if-requires Inv-loop μ-loop
+insert-if-requires c κs = low (c .before)
 
 sub-rest : tie.Need-sub-rest Inv-loop μ-loop
 sub-rest c = omega arith
@@ -49,10 +49,10 @@ loop-less c = let l = c .before .before .before .loop in omega (arith, ones-clea
 loop-again : tie.Need-loop-again Inv-loop μ-loop
 loop-again c =
     let l = c .before .before .before .loop in
-    walk-turn _ _ (c .before .heads-bare .result) (c .with-tail .result) (l .inv) (omega arith) (c .before .heads-bare .ensures) (c .with-tail .ensures)
+    walk-turn _ _ (c .before .heads-bare .result) (c .insert-if .result) (l .inv) (omega arith) (c .before .heads-bare .ensures) (c .insert-if .ensures)
 
 returns : tie.Need-returns Inv-loop μ-loop
 returns c = let a = c .before .before .args in walk-end _ (a .s) (λ i j e. markAt-pair (a .rows .now) (a .s) [] i j 0 e .0) (c .before .loop .inv) (omega arith)
 
 pub ends-bare-spec : {M : Type 1} → statement M
-ends-bare-spec = tie.close (tie.spec Inv-loop μ-loop loop-holds cast-i heads-bare-requires with-tail-requires sub-rest loop-less loop-again returns)
+ends-bare-spec = tie.close (tie.spec Inv-loop μ-loop loop-holds cast-i heads-bare-requires insert-if-requires sub-rest loop-less loop-again returns)

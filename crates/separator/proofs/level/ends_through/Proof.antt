@@ -40,8 +40,8 @@ cast-i c = omega (arith, low c)
 heads-through-requires : tie.Need-heads-through-requires Inv-loop μ-loop
 heads-through-requires c κs = (low c, member c, c .before .before .entered-from .ensures)
 
-with-tail-requires : tie.Need-with-tail-requires Inv-loop μ-loop
-with-tail-requires c κs = low (c .before)
+insert-if-requires : tie.Need-insert-if-requires Inv-loop μ-loop
+insert-if-requires c κs = low (c .before)
 
 sub-rest : tie.Need-sub-rest Inv-loop μ-loop
 sub-rest c = omega arith
@@ -52,7 +52,7 @@ loop-less c = let l = c .before .before .before .loop in omega (arith, ones-clea
 loop-again : tie.Need-loop-again Inv-loop μ-loop
 loop-again c =
     let l = c .before .before .before .loop in
-    walk-turn _ _ (c .before .heads-through .result) (c .with-tail .result) (l .inv) (omega arith) (c .before .heads-through .ensures) (c .with-tail .ensures)
+    walk-turn _ _ (c .before .heads-through .result) (c .insert-if .result) (l .inv) (omega arith) (c .before .heads-through .ensures) (c .insert-if .ensures)
 
 returns : tie.Need-returns Inv-loop μ-loop
 returns c =
@@ -61,4 +61,4 @@ returns c =
 
 pub ends-through-spec : {M : Type 1} → statement M
 ends-through-spec =
-    tie.close (tie.spec Inv-loop μ-loop entered-from-requires loop-holds cast-i heads-through-requires with-tail-requires sub-rest loop-less loop-again returns)
+    tie.close (tie.spec Inv-loop μ-loop entered-from-requires loop-holds cast-i heads-through-requires insert-if-requires sub-rest loop-less loop-again returns)
