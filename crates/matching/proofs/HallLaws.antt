@@ -14,7 +14,7 @@ use Rattle.bitset.proofs.QuantLaws.{below?}
 use Rattle.bitset.proofs.FirstLaws.{some-or-all}
 use Rattle.matching.specs.Matching.{In, Out, nth, Assigns, Inside, Assignment, Exact}
 use Rattle.matching.specs.Paths.{Matched, Reached}
-use Rattle.matching.proofs.Pigeon.{no-miss}
+use Rattle.matching.proofs.OrbitLaws.{no-miss}
 use Rattle.matching.proofs.SpareLaws.{spare}
 
 -- a component below p at the station s, or none

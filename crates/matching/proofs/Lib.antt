@@ -4,6 +4,6 @@ pub mod PutLaws
 pub mod PathLaws
 pub mod SearchLaws
 pub mod SpareLaws
-pub mod Pigeon
+pub mod OrbitLaws
 pub mod HallLaws
 pub mod Reading
