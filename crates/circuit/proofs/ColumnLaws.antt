@@ -1,24 +1,29 @@
 -- Columns, filled row by row. Assumes nothing.
-use mathlib.Core.Path.{_≡_, sym, ap, ap₂, _∙_}
+use mathlib.Core.Path.{_≡_, refl, sym, ap, ap₂, _∙_}
 use mathlib.Core.Logic.{⊎-elim}
 use mathlib.Core.Bool.{Bool, true, false, not, cond, _&&_, and-true, and-false}
 use mathlib.Core.List.{List}
-use Prim.Native.Nat.{ℕ, _+_, _-_, _^_, _<_}
+use Prim.Native.Nat.{ℕ, _+_, _-_, _^_, _≤_, _<_}
+use native.Mathlib.Nat.{lt-of-lt-of-le}
 use lib.Bits.{bitAnd, bitOr}
 use lib.Count.{trailingZeros}
-use lib.Dec.{eqb}
+use lib.Dec.{eqb, ltb}
+use lib.Pow.{pow-mono}
 use lib.ListN.{length, getD, set, replicate, length-replicate, getD-replicate}
 use lib.Seq.{getD-set-same, getD-set-other}
-use borrow.Author.Tests.{eqb-true, eqb-false}
+use borrow.Author.Tests.{eqb-true, eqb-false, lt-ltb, le-ltb}
 use Rattle.bitset.specs.Sets.{has, setOf}
 use Rattle.bitset.specs.Upto.{upto}
-use Rattle.bitset.proofs.BoolLaws.{cases, cond-false}
-use Rattle.bitset.proofs.HasLaws.{has-zero}
+use Rattle.bitset.proofs.BoolLaws.{cases, cond-true, cond-false}
+use Rattle.bitset.proofs.HasLaws.{has-zero, has-above, ext}
+use Rattle.bitset.proofs.QuantLaws.{below?}
+use Rattle.bitset.proofs.SetLaws.{has-setOf, setOf-lt, setOf-above, setOf-ext, setOf-none}
 use Rattle.bitset.proofs.LeastLaws.{trailing-least, has-clear}
 use Rattle.bitset.proofs.MachineLaws.{setOf-take, setOf-skip}
 use Rattle.bitset.proofs.UptoLaws.{getD-upto, upto-cong, upto-of}
-use Rattle.circuit.specs.Legs.{row, leg, col}
+use Rattle.circuit.specs.Legs.{row, leg, col, tableOf, Square, gaps}
 use Rattle.circuit.specs.Inner.{added}
+use Rattle.circuit.proofs.LegsLaws.{leg-tableOf}
 
 -- a row without legs adds nothing
 pub added-none : (i : ℕ) (cols : List ℕ) (j : ℕ) → added i 0 cols j ≡ row cols j
@@ -70,3 +75,65 @@ pub columns-turn : (t cols : List ℕ) (i : ℕ) → cols ≡ upto 64 (col i t) 
 unfolding row
 columns-turn t cols i e =
     upto-cong 64 (added i (row t i) cols) (col (i + 1) t) (λ j l. added-col t cols i j (ap (λ (c : List ℕ). getD c j 0) e ∙ getD-upto 64 (col i t) 0 j l))
+
+-- ---- gaps
+
+-- what the full set of n has and w has not
+pub gap-is : (n w all r : ℕ) → n ≤ 64 → all ≡ setOf 64 (λ j. ltb j n) → r ≡ setOf 64 (λ j. has all j && not (has w j)) → r ≡ setOf n (λ j. not (has w j))
+gap-is n w all r le ea er = er ∙ ext 64 (setOf 64 both) (setOf n lacks) (setOf-lt 64 both) (lt-of-lt-of-le (setOf-lt n lacks) (pow-mono le)) (λ k l. has-setOf 64 both k l ∙ ⊎-elim (inside k l) (beyond k l) (below? k n))
+  where
+    both : ℕ → Bool
+    both j = has all j && not (has w j)
+
+    lacks : ℕ → Bool
+    lacks j = not (has w j)
+
+    full-at : (k : ℕ) → k < 64 → has all k ≡ ltb k n
+    full-at k l = ap (λ (x : ℕ). has x k) ea ∙ has-setOf 64 (λ j. ltb j n) k l
+
+    inside : (k : ℕ) → k < 64 → k < n → both k ≡ has (setOf n lacks) k
+    inside k l m = ap (λ (b : Bool). b && not (has w k)) (full-at k l ∙ lt-ltb k n m) ∙ sym (has-setOf n lacks k m)
+
+    beyond : (k : ℕ) → k < 64 → n ≤ k → both k ≡ has (setOf n lacks) k
+    beyond k l g = ap (λ (b : Bool). b && not (has w k)) (full-at k l ∙ le-ltb k n g) ∙ sym (setOf-above n lacks k g)
+
+-- row i of the gaps
+pub gapRow : ℕ → List ℕ → ℕ → ℕ
+gapRow n t i = cond (ltb i n) (setOf n (λ j. not (leg t i j))) 0
+
+pub gaps-rows : (n : ℕ) (t : List ℕ) → upto 64 (gapRow n t) ≡ gaps n t
+unfolding gaps tableOf gapRow
+gaps-rows n t = refl
+
+pub gap-in : (n : ℕ) (t : List ℕ) (i r : ℕ) → i < n → r ≡ setOf n (λ j. not (leg t i j)) → r ≡ gapRow n t i
+unfolding gapRow
+gap-in n t i r l e = e ∙ sym (cond-true (setOf n (λ j. not (leg t i j))) 0 (lt-ltb i n l))
+
+pub gap-beyond : (n : ℕ) (t : List ℕ) (i : ℕ) → n ≤ i → 0 ≡ gapRow n t i
+unfolding gapRow
+gap-beyond n t i g = sym (cond-false (setOf n (λ j. not (leg t i j))) 0 (le-ltb i n g))
+
+-- the gaps of the columns of the gaps are the columns
+pub gaps-columns : (n : ℕ) (t : List ℕ) → n ≤ 64 → Square n t → gaps n (upto 64 (col n (gaps n t))) ≡ upto 64 (col n t)
+unfolding gapRow col leg row gaps
+gaps-columns n t le sq = sym (gaps-rows n missing) ∙ upto-cong 64 (gapRow n missing) (col n t) (λ j l. ⊎-elim (inside j l) (beyond j) (below? j n))
+  where
+    missing : List ℕ
+    missing = upto 64 (col n (gaps n t))
+
+    back : (i j : ℕ) → i < n → j < n → j < 64 → not (leg missing j i) ≡ leg t i j
+    back i j li lj l =
+        ap not (ap (λ (w : ℕ). has w i) (getD-upto 64 (col n (gaps n t)) 0 j l) ∙ has-setOf n (λ k. leg (gaps n t) k j) i li ∙ leg-tableOf n (λ i j. not (leg t i j)) i j le li lj)
+        ∙ not-not (leg t i j)
+      where
+        not-not : (b : Bool) → not (not b) ≡ b
+        not-not true = refl
+        not-not false = refl
+
+    inside : (j : ℕ) → j < 64 → j < n → gapRow n missing j ≡ col n t j
+    inside j l lj = cond-true (setOf n (λ i. not (leg missing j i))) 0 (lt-ltb j n lj) ∙ setOf-ext n (λ i. not (leg missing j i)) (λ i. leg t i j) (λ i li. back i j li lj l)
+
+    beyond : (j : ℕ) → n ≤ j → gapRow n missing j ≡ col n t j
+    beyond j g =
+        cond-false (setOf n (λ i. not (leg missing j i))) 0 (le-ltb j n g)
+        ∙ sym (setOf-ext n (λ i. leg t i j) (λ i. false) (λ i li. has-above n (row t i) j (sq i li) g) ∙ setOf-none n)

@@ -1,14 +1,10 @@
 -- A table as words of 64 bits: the neighbours of each station, and the stations of a list of sets.
 use mathlib.Core.Path.{_≡_}
 use mathlib.Core.List.{List}
-use Prim.Native.Nat.{ℕ, _^_, _≤_, _<_}
+use Prim.Native.Nat.{ℕ, _≤_, _<_}
 use lib.ListN.{getD, length}
 use Rattle.bitset.specs.Sets.{has, any, setOf}
 use Rattle.circuit.specs.Legs.{row, neighbours}
-
--- the first n rows have no bit beyond n
-abbrev pub Square : ℕ → List ℕ → Type 0
-Square n t = (i : ℕ) → i < n → row t i < 2 ^ n
 
 -- word i of nbr is the set of the neighbours of i, for each of the n stations of the table t
 pub record Linked (n : ℕ) (t nbr : List ℕ) : Type 0 where

@@ -8,10 +8,10 @@ ghost use Prim.Native.Nat.{ℕ, _^_, _<_, _≤_};
 ghost use lib.ListN.{take};
 ghost use Rattle.bitset.specs.Sets.{has, setOf};
 ghost use Rattle.bitset.specs.Upto.{upto};
-ghost use Rattle.circuit.specs.Legs.{col, neighbours};
+ghost use Rattle.circuit.specs.Legs.{col, neighbours, Square};
 ghost use Rattle.separator.specs.Levels.{neighbourhood, levels};
 ghost use Rattle.separator.specs.Components.{grow, components};
-ghost use Rattle.separator.specs.Linked.{Square, Linked, stationsOf};
+ghost use Rattle.separator.specs.Linked.{Linked, stationsOf};
 
 // Level k stands at `level[k]`, for k below `count`; `reached` has the stations of all levels.
 pub struct Levels {

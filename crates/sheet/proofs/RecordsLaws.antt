@@ -1,20 +1,25 @@
 -- The records one after another: what the first i records gave, and how a sheet goes on from there. Assumes nothing.
 use mathlib.Core.Path.{_≡_, refl, ap, _∙_, subst}
 use mathlib.Core.List.{List, [], _∷_, _++_, map, map-append}
-use Prim.Native.Nat.{ℕ, zero, suc, _+_, _-_, _≤_, _<_}
+use Prim.Native.Nat.{ℕ, zero, suc, _+_, _-_, _^_, _≤_, _<_}
 use native.Mathlib.Nat.{zero-add, suc-add}
 use native.Mathlib.Numerals.{add-one}
 use native.Mathlib.Omega.{arith}
-use lib.ListN.{length, take, drop, set, length-drop, length-append, length-set, drop-of-length-le}
+use lib.Bits.{and-le-l}
+use lib.Dec.{ltb}
+use lib.Pow.{pow-pos}
+use lib.ListN.{length, getD, take, drop, set, length-drop, length-append, length-set, drop-of-length-le}
 use lib.Seq.{drop-cons, drop-drop, take-suc-set}
 use Rattle.circuit.specs.declared.Answer.{Answer}
 use Rattle.circuit.specs.declared.Answer.the-variants.{Taken, Overhang}
-use Rattle.circuit.specs.Legs.{tableOf}
+use Rattle.bitset.specs.Sets.{setOf}
+use Rattle.bitset.proofs.MachineLaws.{full-setOf}
+use Rattle.circuit.specs.Legs.{row, tableOf, Square}
 use Rattle.circuit.specs.State.{fresh}
 use Rattle.sheet.specs.Layout.{Entry, Page, given}
 use Rattle.sheet.specs.Open.{Got, got, fault, _then_, readEntry, readEntries, readEnd, refused, opened}
-use Rattle.sheet.specs.Reader.{GotAt, FaultAt, nextOf, legal, readRest}
-use Rattle.sheet.proofs.TableLaws.{barredOf, mapped-at, legal-given}
+use Rattle.sheet.specs.Reader.{GotAt, FaultAt, nextOf, prevOf, legal, readRest}
+use Rattle.sheet.proofs.TableLaws.{barredOf, free, mapped-at, legal-given}
 
 -- ---- i records, then k records
 
@@ -107,6 +112,15 @@ module _ {n : ℕ} {s next barred : List ℕ} {at i : ℕ} (h : SoFar n s next b
 module _ {n : ℕ} {s next barred : List ℕ} {at : ℕ} (limit : ℕ) (h : SoFar n s next barred at n) where
   abbrev page : Page
   page = record { stations = n; entries = h .entries }
+
+  -- the barred stations are below n
+  pub so-far-square : n ≤ 64 → Square n barred
+  unfolding row
+  so-far-square le k l =
+      let all = setOf 64 (λ j. ltb j n) in
+      let e = getD (h .entries) k free in
+      let rest = (2 ^ 64 - 1) - prevOf e in
+      omega (arith, mapped-at (barredOf n) (h .entries) barred n (h .count) (h .bars) k l, and-le-l all rest, full-setOf 64 n le, pow-pos n)
 
   pub so-far-over : at < length s → opened (length s) limit (readRest n (drop 1 s)) ≡ refused Overhang at
   unfolding opened readEnd

@@ -88,7 +88,7 @@ abbrev pub barredOf : ℕ → Entry → ℕ
 barredOf n e = bitAnd (setOf 64 (λ j. ltb j n)) ((2 ^ 64 - 1) - prevOf e)
 
 -- the record that says nothing
-abbrev free : Entry
+abbrev pub free : Entry
 free = record { next = none; prev = none; fixed = none }
 
 getD-map : (f : Entry → ℕ) (es : List Entry) (k : ℕ) → k < length es → getD (map f es) k 0 ≡ f (getD es k free)

@@ -1,61 +1,48 @@
--- `circuit::columns` meets its contract. The invariant: the columns of the rows below i.
+-- `circuit::columns` meets its contract.
 use borrow.Author.Needs.{needs}
-use denote.Ref.{now}
-use mathlib.Core.Path.{_≡_, ap, _∙_}
-use Prim.Native.Nat.{_-_, _≤_}
-use native.Mathlib.Omega.{arith}
-use lib.ListN.{length}
+use mathlib.Core.Path.{ap, _∙_}
+use mathlib.Core.List.{List}
+use Prim.Native.Nat.{ℕ}
 use Rattle.bitset.specs.Upto.{upto}
-use Rattle.bitset.proofs.UptoLaws.{length-upto}
-use Rattle.circuit.specs.Legs.{row, col}
-use Rattle.circuit.proofs.ColumnLaws.{columns-none, columns-turn}
+use Rattle.circuit.specs.Legs.{col, gaps}
+use Rattle.circuit.proofs.ColumnLaws.{gaps-columns}
 use Rattle.circuit.proofs.columns.Statement.{statement}
 use Rattle.circuit.proofs.columns.Tie as tie
 
-abbrev Inv-loop : tie.InvT-loop
-Inv-loop rows n cols₀ i₀ cols i = (i ≤ n) × (cols ≡ upto 64 (col i rows))
+looks-dense-requires : tie.Need-looks-dense-requires
+looks-dense-requires c κs = search needs
 
-abbrev μ-loop : tie.MeasureT-loop
-μ-loop rows n cols₀ i₀ cols i = n - i
+complements-requires : tie.Need-complements-requires
+complements-requires c κs = search needs
 
-loop-holds : tie.Need-loop-holds Inv-loop μ-loop
-loop-holds c = (omega arith, columns-none _)
+columns-by-legs-requires : tie.Need-columns-by-legs-requires
+columns-by-legs-requires c κs = search needs
 
-mul-add-row : tie.Need-mul-add-row Inv-loop μ-loop
-mul-add-row c = search needs
+complements-requires-2 : tie.Need-complements-requires-2
+complements-requires-2 c κs = search needs
 
-element-copy-out-add-row : tie.Need-element-copy-out-add-row Inv-loop μ-loop
-element-copy-out-add-row c = search needs
+returns : tie.Need-returns
+returns c =
+    let legs = c .before .before in
+    let missing = legs .before .before in
+    let s = missing .before .before .before in
+    let n = s .args .n in
+    c .complements2 .ensures ∙ ap (gaps n) (legs .columns-by-legs .ensures ∙ ap (λ (t : List ℕ). upto 64 (col n t)) (missing .complements .ensures)) ∙ gaps-columns n (s .args .rows .now) (s .pre .0) (s .pre .1)
 
-add-row-requires : tie.Need-add-row-requires Inv-loop μ-loop
-add-row-requires c κs = let l = c .before .before .before .loop in (omega arith, ap length (l .inv .1) ∙ length-upto 64 (col (l .i) _))
+columns-by-legs-requires-2 : tie.Need-columns-by-legs-requires-2
+columns-by-legs-requires-2 c κs = search needs
 
-add-i : tie.Need-add-i Inv-loop μ-loop
-add-i c = search needs
-
-loop-less : tie.Need-loop-less Inv-loop μ-loop
-loop-less c = search needs
-
-loop-again : tie.Need-loop-again Inv-loop μ-loop
-unfolding row
-loop-again c =
-    let l = c .before .before .before .before .loop in
-    (omega arith, c .add-row .ensures ∙ columns-turn (now (c .before .before .before .before .before .args .rows)) (l .cols) (l .i) (l .inv .1))
-
-returns : tie.Need-returns Inv-loop μ-loop
-returns c = let e : c .before .loop .i ≡ c .before .before .args .n = omega arith in rw e at (c .before .loop .inv .1)
+returns-2 : tie.Need-returns-2
+returns-2 c = search needs
 
 pub columns-spec : {M : Type 1} → statement M
 columns-spec =
     tie.close
     (tie.spec
-    Inv-loop
-    μ-loop
-    loop-holds
-    mul-add-row
-    element-copy-out-add-row
-    add-row-requires
-    add-i
-    loop-less
-    loop-again
-    returns)
+    looks-dense-requires
+    complements-requires
+    columns-by-legs-requires
+    complements-requires-2
+    returns
+    columns-by-legs-requires-2
+    returns-2)

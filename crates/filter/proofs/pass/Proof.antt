@@ -9,7 +9,7 @@ use Rattle.bitset.specs.Sets.{outside}
 use Rattle.circuit.specs.declared.Work.{Work}
 use Rattle.circuit.specs.declared.Verdict.{Verdict}
 use Rattle.circuit.specs.State.{rowsOf, bad, Good}
-use Rattle.circuit.proofs.StateLaws.{inside, good}
+use Rattle.circuit.proofs.StateLaws.{inside, good, stray-row}
 use Rattle.filter.specs.Pass.{pass}
 use Rattle.filter.specs.Calls.{byHand}
 use Rattle.filter.specs.Inner.{Within}
@@ -69,7 +69,7 @@ returns-3 c =
     (c .unchanged3 .ensures ∙ hand-ended (a .work) (pass (a .work .n) (rowsOf (a .work)) (a .work .limit) (pred (a .seed))) (sym (n .is-none .ensures) ∙ c .before .if3 .taken))
 
 columns-requires : tie.Need-columns-requires
-columns-requires c κs = sure (c .before .before .before .before .before) .state .most
+columns-requires c κs = let g = sure (c .before .before .before .before .before) .state in (g .most, stray-row _ _ (g .most) (g .table))
 
 sub-pass-on : tie.Need-sub-pass-on
 sub-pass-on c = sure (c .before .before .before .before .before .before .before .before) .least

@@ -10,6 +10,7 @@ use Rattle.circuit.specs.declared.Work.{Work}
 use Rattle.circuit.specs.declared.Ran.{Ran}
 use Rattle.circuit.specs.declared.Answer.the-variants.{Taken}
 use Rattle.circuit.specs.State.{rowsOf, moved, Good}
+use Rattle.circuit.proofs.StateLaws.{stray-row}
 use Rattle.filter.specs.declared.Cursor.{Cursor}
 use Rattle.filter.specs.Calls.{gone}
 use Rattle.filter.specs.Inner.{Columned}
@@ -29,7 +30,7 @@ abbrev μ-loop : tie.MeasureT-loop
 μ-loop work budget n limit rows₀ cols₀ at₀ steps₀ removed₀ rows cols at steps removed = budget - steps
 
 columns-requires : tie.Need-columns-requires Inv-loop μ-loop
-columns-requires c κs = search needs
+columns-requires c κs = let g = c .before .before .before .pre in (g .most, stray-row _ _ (g .most) (g .table))
 
 loop-holds : tie.Need-loop-holds Inv-loop μ-loop
 loop-holds c =

@@ -4,7 +4,7 @@ use mathlib.Core.Path.{_≡_, sym, ap, subst, _∙_}
 use lib.ListN.{length}
 use Rattle.circuit.specs.declared.Verdict.{Verdict}
 use Rattle.circuit.specs.State.{rowsOf, Good}
-use Rattle.circuit.proofs.StateLaws.{good}
+use Rattle.circuit.proofs.StateLaws.{good, stray-row}
 use Rattle.filter.specs.Sweep.{sweep}
 use Rattle.filter.specs.Calls.{byHand}
 use Rattle.filter.specs.Inner.{Within}
@@ -43,7 +43,7 @@ sure : (c : tie.Else2) → Good (c .before .before .before .before .args .work)
 sure c = let b = c .before .before .before in good (b .before .args .work) (sym (b .is-bad .ensures) ∙ c .before .before .if1 .left)
 
 columns-requires : tie.Need-columns-requires
-columns-requires c κs = sure (c .before .before .before) .most
+columns-requires c κs = let g = sure (c .before .before .before) in (g .most, stray-row _ _ (g .most) (g .table))
 
 sweep-rows-requires : tie.Need-sweep-rows-requires
 sweep-rows-requires c κs =

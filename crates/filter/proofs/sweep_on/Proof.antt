@@ -1,9 +1,9 @@
 -- `filter::sweep_on` meets its contract.
-use borrow.Author.Needs.{needs}
 use mathlib.Core.Path.{ap, _∙_}
 use lib.ListN.{length}
 use Rattle.bitset.proofs.UptoLaws.{length-upto}
 use Rattle.circuit.specs.Legs.{col}
+use Rattle.circuit.proofs.StateLaws.{stray-row}
 use Rattle.filter.proofs.sweep_on.Statement.{statement}
 use Rattle.filter.proofs.sweep_on.Tie as tie
 
@@ -11,7 +11,9 @@ sweep-rows-requires : tie.Need-sweep-rows-requires
 sweep-rows-requires c κs = let s = c .before .before in (s .pre .0, s .pre .1)
 
 columns-requires : tie.Need-columns-requires
-columns-requires c κs = search needs
+columns-requires c κs =
+    let s = c .before .before .before .before in
+    (s .pre .0, stray-row _ _ (s .pre .0) (c .before .sweep-rows .ensures .clean))
 
 copy-words-requires : tie.Need-copy-words-requires
 copy-words-requires c κs =

@@ -15,7 +15,7 @@ use Rattle.sheet.specs.declared.Read.the-variants.{Whole, Fault}
 use Rattle.sheet.specs.Open.{readEntry}
 use Rattle.sheet.specs.Reader.{IsRecord}
 use Rattle.sheet.proofs.ReaderLaws.{rest-of, record-told}
-use Rattle.sheet.proofs.RecordsLaws.{SoFar, so-far-none, so-far-more, so-far-fault, so-far-all, so-far-over, so-far-whole}
+use Rattle.sheet.proofs.RecordsLaws.{SoFar, so-far-none, so-far-more, so-far-fault, so-far-all, so-far-square, so-far-over, so-far-whole}
 use Rattle.sheet.proofs.open_records.Statement.{statement}
 use Rattle.sheet.proofs.open_records.Tie as tie
 
@@ -127,7 +127,11 @@ returns-2 c =
     c .refused2 .ensures ∙ sym (so-far-over (c .before .before .before .before .before .args .limit) all (c .before .if1 .taken))
 
 table-of-requires : tie.Need-table-of-requires Inv-loop μ-loop
-table-of-requires c κs = search needs
+table-of-requires c κs =
+    let l = c .before .before .before .before in
+    let s = l .before .before in
+    let all = so-far-all (l .loop .inv .1) (omega arith) in
+    (s .pre .0, so-far-square (s .args .limit) all (s .pre .0))
 
 fresh-requires : tie.Need-fresh-requires Inv-loop μ-loop
 fresh-requires c κs = search needs

@@ -65,9 +65,9 @@ loop-again c =
     let i : ℕ = l .i in
     let word : ℕ → List ℕ → ℕ = λ w t. bitAnd w (bitAnd (getD next i 0) ((2 ^ 64 - 1) - getD t i 0)) in
     let own : getD (l .rows) i 0 ≡ getD (fullTable (e .args .n)) i 0 =
-    changed-here 0 (l .inv .1) ∙ ap (λ (t : List ℕ). getD t i 0) (c .before .before .before .before .before .full .ensures ∙ ap fullTable (capped-small (e .args .n) (e .pre))) in
+    changed-here 0 (l .inv .1) ∙ ap (λ (t : List ℕ). getD t i 0) (c .before .before .before .before .before .full .ensures ∙ ap fullTable (capped-small (e .args .n) (e .pre .0))) in
     let below : i < 64 = omega arith in
-    let is = ap₂ word own (c .before .before .before .columns .ensures) ∙ row-is (e .args .n) i next (e .args .barred .now) (e .pre) below in
+    let is = ap₂ word own (c .before .before .before .columns .ensures) ∙ row-is (e .args .n) i next (e .args .barred .now) (e .pre .0) below in
     (omega arith, changed-more _ (l .inv .1) below is)
 
 returns : tie.Need-returns Inv-loop μ-loop
