@@ -5,12 +5,12 @@ use crate::line::print_line;
 use crate::line::put;
 use crate::line::put_field;
 use crate::line::put_rows;
-use circuit::Called;
 use circuit::Checked;
 use circuit::End;
-use circuit::Opened;
-use circuit::Ran;
 use circuit::Work;
+use filter::Called;
+use filter::Ran;
+use sheet::Opened;
 ghost use Prim.Native.Nat.{_≤_};
 
 fn put_end(line: &mut [u8; LINE], at: usize, end: End) -> usize

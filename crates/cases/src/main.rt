@@ -56,14 +56,6 @@ fn stop(work: Work) -> Step
     Step { taken: 0, work }
 }
 
-fn end_of(code: u8) -> End {
-    match code {
-        0 => End::Open,
-        1 => End::Stable,
-        _ => End::None,
-    }
-}
-
 fn open(part: &[u8], work: Work) -> Step
     ensures { λ r. ⌜ r .taken ≤ length (now (part .entry)) ⌝ }
 {
@@ -104,7 +96,7 @@ fn set_work(part: &[u8], work: Work) -> Step
         read_u64(part, 9) as usize,
         read_u64(part, 17) as usize,
         mark == 1,
-        end_of(end),
+        End::of_code(end as u64),
     );
     print_work(next);
     Step {

@@ -13,7 +13,7 @@ use lib.ListN.{length, getD, set, replicate, length-replicate, getD-replicate}
 use lib.Seq.{getD-set-same, getD-set-other}
 use borrow.Author.Tests.{eqb-true, eqb-false, lt-ltb, le-ltb}
 use Rattle.bitset.specs.Sets.{has, setOf}
-use Rattle.bitset.specs.Upto.{upto}
+use Rattle.bitset.specs.Upto.{upto, row}
 use Rattle.bitset.proofs.BoolLaws.{cases, cond-true, cond-false}
 use Rattle.bitset.proofs.HasLaws.{has-zero, has-above, ext}
 use Rattle.bitset.proofs.QuantLaws.{below?}
@@ -21,8 +21,8 @@ use Rattle.bitset.proofs.SetLaws.{has-setOf, setOf-lt, setOf-above, setOf-ext, 
 use Rattle.bitset.proofs.LeastLaws.{trailing-least, has-clear}
 use Rattle.bitset.proofs.MachineLaws.{setOf-take, setOf-skip}
 use Rattle.bitset.proofs.UptoLaws.{getD-upto, upto-cong, upto-of}
-use Rattle.circuit.specs.Legs.{row, leg, col, tableOf, Square, gaps}
-use Rattle.circuit.specs.Inner.{added}
+use Rattle.circuit.specs.Legs.{columns, leg, col, tableOf}
+use Rattle.circuit.specs.inner.Tables.{Square, gaps, added}
 use Rattle.circuit.proofs.LegsLaws.{leg-tableOf}
 
 -- a row without legs adds nothing
@@ -39,7 +39,7 @@ module _ (i rest : ℕ) (cols : List ℕ) (positive : 0 < rest) (fits : rest < 2
   joined = bitOr (row cols least) (2 ^ i)
 
   pub added-turn : least < length cols → (j : ℕ) → added i (bitAnd rest (rest - 1)) (set cols least joined) j ≡ added i rest cols j
-  unfolding added row
+  unfolding added
   added-turn l j = ⊎-elim at-least elsewhere (cases (eqb j least))
     where
       pick : Bool → ℕ → ℕ
@@ -67,12 +67,11 @@ added-col t cols i j e =
     (cases (has (row t i) j))
 
 -- the loop over the rows: no column at the start, and a turn
-pub columns-none : (t : List ℕ) → replicate 64 0 ≡ upto 64 (col 0 t)
+pub columns-none : (t : List ℕ) → replicate 64 0 ≡ columns 0 t
 unfolding col setOf
 columns-none t = upto-of 64 (col 0 t) 0 (replicate 64 0) (length-replicate {A = ℕ} 64 0) (λ j l. getD-replicate 64 j 0 0 l)
 
-pub columns-turn : (t cols : List ℕ) (i : ℕ) → cols ≡ upto 64 (col i t) → upto 64 (added i (row t i) cols) ≡ upto 64 (col (i + 1) t)
-unfolding row
+pub columns-turn : (t cols : List ℕ) (i : ℕ) → cols ≡ columns i t → upto 64 (added i (row t i) cols) ≡ columns (i + 1) t
 columns-turn t cols i e =
     upto-cong 64 (added i (row t i) cols) (col (i + 1) t) (λ j l. added-col t cols i j (ap (λ (c : List ℕ). getD c j 0) e ∙ getD-upto 64 (col i t) 0 j l))
 
@@ -114,12 +113,12 @@ unfolding gapRow
 gap-beyond n t i g = sym (cond-false (setOf n (λ j. not (leg t i j))) 0 (le-ltb i n g))
 
 -- the gaps of the columns of the gaps are the columns
-pub gaps-columns : (n : ℕ) (t : List ℕ) → n ≤ 64 → Square n t → gaps n (upto 64 (col n (gaps n t))) ≡ upto 64 (col n t)
-unfolding gapRow col leg row gaps
+pub gaps-columns : (n : ℕ) (t : List ℕ) → n ≤ 64 → Square n t → gaps n (columns n (gaps n t)) ≡ columns n t
+unfolding gapRow col leg gaps
 gaps-columns n t le sq = sym (gaps-rows n missing) ∙ upto-cong 64 (gapRow n missing) (col n t) (λ j l. ⊎-elim (inside j l) (beyond j) (below? j n))
   where
     missing : List ℕ
-    missing = upto 64 (col n (gaps n t))
+    missing = columns n (gaps n t)
 
     back : (i j : ℕ) → i < n → j < n → j < 64 → not (leg missing j i) ≡ leg t i j
     back i j li lj l =

@@ -10,9 +10,10 @@ use lib.ListN.{getD, length}
 use Rattle.bitset.specs.Sets.{outside}
 use Rattle.bitset.proofs.BoolLaws.{cases, is-false, not-both, and-intro, and-l, and-r}
 use Rattle.bitset.proofs.QuantLaws.{all-intro, all-elim}
-use Rattle.circuit.specs.Legs.{row, leg}
-use Rattle.circuit.specs.Check.{isList}
-use Rattle.circuit.specs.Inner.{goodEntry, goodEntries, Numbers, choiceOf, Returns, Decides}
+use Rattle.bitset.specs.Upto.{row}
+use Rattle.circuit.specs.Legs.{leg}
+use Rattle.circuit.specs.Check.{isList, choiceOf}
+use Rattle.circuit.specs.inner.Lists.{goodEntry, goodEntries, Numbers, Returns, Decides}
 use Rattle.circuit.proofs.Return.{returning-round, round-returns}
 use Rattle.circuit.proofs.CheckLaws.{ListsRound, numbers-intro, numbers-elim, isList-elim, isList-intro}
 

@@ -15,8 +15,8 @@ use Rattle.bitset.proofs.QuantLaws.{below?}
 use Rattle.bitset.proofs.HasLaws.{has-zero, has-above, has-half}
 use Rattle.bitset.proofs.SetLaws.{setOf-lt, has-setOf, setOf-elim, no-member}
 use Rattle.bitset.proofs.MachineLaws.{within-of-diff, diff-of-within}
-use Rattle.circuit.specs.Legs.{fullRow}
-use Rattle.circuit.specs.Inner.{strayRow}
+use Rattle.circuit.specs.inner.Tables.{fullRow}
+use Rattle.circuit.specs.State.{strayRow}
 
 -- a word with members below n only is below 2 ^ n
 pub members-below : (n w : ℕ) → ((j : ℕ) → has w j ≡ true → j < n) → w < 2 ^ n

@@ -3,7 +3,7 @@ use mathlib.Core.Path.{_≡_}
 use mathlib.Core.Bool.{true, false}
 use mathlib.Core.List.{List}
 use Prim.Native.Nat.{ℕ}
-use Rattle.circuit.specs.declared.Verdict.{Verdict}
+use Rattle.circuit.specs.declared.verdict.Verdict.{Verdict}
 use Rattle.circuit.specs.Legs.{Subtable}
 use Rattle.circuit.specs.Round.{RoundOf}
 use Rattle.circuit.specs.State.{stray}

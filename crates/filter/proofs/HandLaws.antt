@@ -9,11 +9,12 @@ use lib.Dec.{ltb}
 use Rattle.bitset.specs.Sets.{outside, sum, size}
 use Rattle.bitset.proofs.BoolLaws.{cond-true, cond-false}
 use Rattle.bitset.proofs.SumLaws.{sum-ext}
-use Rattle.circuit.specs.declared.Work.{Work}
-use Rattle.circuit.specs.declared.Verdict.{Verdict}
-use Rattle.circuit.specs.declared.Called.{Called}
-use Rattle.circuit.specs.declared.Answer.the-variants.{Taken, BadWork, StraySeed}
-use Rattle.circuit.specs.Legs.{row, legs, Subtable}
+use Rattle.circuit.specs.declared.state.Work.{Work}
+use Rattle.circuit.specs.declared.verdict.Verdict.{Verdict}
+use Rattle.filter.specs.declared.Called.{Called}
+use Rattle.circuit.specs.declared.card.Answer.the-variants.{Taken, BadWork, StraySeed}
+use Rattle.bitset.specs.Upto.{row}
+use Rattle.circuit.specs.Legs.{legs, Subtable}
 use Rattle.circuit.specs.State.{isNone, rowsOf, stray, bad, Good}
 use Rattle.circuit.specs.Verdict.{Sound}
 use Rattle.circuit.proofs.LegsLaws.{legs-le}
@@ -21,7 +22,7 @@ use Rattle.circuit.proofs.StateLaws.{legs-ones}
 use Rattle.filter.specs.Sweep.{sweep}
 use Rattle.filter.specs.Pass.{pass}
 use Rattle.filter.specs.Calls.{gone, halted, unchanged, reopened, byHand, sweepCall, passCall}
-use Rattle.filter.specs.Inner.{Within}
+use Rattle.filter.specs.inner.Steps.{Within}
 
 -- a sound verdict leaves no stray leg and no leg that was missing
 pub within : (w : Work) (v : Verdict) → Good w → Sound (w .n) (rowsOf w) v → Within w v

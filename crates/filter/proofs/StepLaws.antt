@@ -10,13 +10,14 @@ use lib.Dec.{ltb}
 use Rattle.bitset.specs.Sets.{has, size, sum}
 use Rattle.bitset.proofs.BoolLaws.{cond-true, cond-false}
 use Rattle.bitset.proofs.OnesLaws.{count-le}
-use Rattle.circuit.specs.declared.Work.{Work}
-use Rattle.circuit.specs.declared.Verdict.{Verdict}
-use Rattle.circuit.specs.declared.Called.{Called}
-use Rattle.circuit.specs.declared.Ran.{Ran}
-use Rattle.circuit.specs.declared.Answer.the-variants.{Taken}
-use Rattle.circuit.specs.declared.End.the-variants.{Open, Stable}
-use Rattle.circuit.specs.Legs.{row, legs, Subtable}
+use Rattle.circuit.specs.declared.state.Work.{Work}
+use Rattle.circuit.specs.declared.verdict.Verdict.{Verdict}
+use Rattle.filter.specs.declared.Called.{Called}
+use Rattle.filter.specs.declared.Ran.{Ran}
+use Rattle.circuit.specs.declared.card.Answer.the-variants.{Taken}
+use Rattle.circuit.specs.declared.card.End.the-variants.{Open, Stable}
+use Rattle.bitset.specs.Upto.{row}
+use Rattle.circuit.specs.Legs.{legs, Subtable}
 use Rattle.circuit.specs.State.{isOpen, rowsOf, fresh, moved, lastPlace, Good}
 use Rattle.filter.specs.Sweep.{sweep}
 use Rattle.filter.specs.Pass.{pass}

@@ -11,19 +11,19 @@ use lib.ListN.{getD}
 use lib.Pow.{pow-mono}
 use borrow.Author.Tests.{lt-ltb, le-ltb}
 use Rattle.bitset.specs.Sets.{has, any, setOf}
-use Rattle.bitset.specs.Upto.{upto}
+use Rattle.bitset.specs.Upto.{upto, row}
 use Rattle.bitset.proofs.BoolLaws.{clash, cases, and-l, cond-true, cond-false}
 use Rattle.bitset.proofs.QuantLaws.{below?, any-intro, any-elim, any-ext, any-or}
 use Rattle.bitset.proofs.HasLaws.{has-zero, has-above, ext}
 use Rattle.bitset.proofs.SetLaws.{has-setOf, setOf-lt, setOf-above}
 use Rattle.bitset.proofs.UptoLaws.{getD-upto}
-use Rattle.circuit.specs.Legs.{row, leg, col, tableOf, without}
+use Rattle.circuit.specs.Legs.{columns, leg, col, tableOf, without}
 use Rattle.circuit.specs.State.{stray}
 use Rattle.circuit.specs.Verdict.{saysNone, leaves}
 use Rattle.circuit.proofs.StateLaws.{stray-row, stray-beyond}
 use Rattle.filter.specs.declared.Singles.{Singles}
-use Rattle.filter.specs.Singles.{single, only, SinglesOf, keeps}
-use Rattle.filter.specs.Sweep.{stuck, nextTaken, prevTaken, columns, swept, sweep}
+use Rattle.filter.specs.inner.Singles.{single, only, SinglesOf, keeps}
+use Rattle.filter.specs.Sweep.{stuck, nextTaken, prevTaken, swept, sweep}
 use Rattle.filter.proofs.SinglesLaws.{single-pow, other-pair, other-once}
 
 -- ---- of a list of words: some other word than the one at i is the set of j alone
@@ -69,22 +69,21 @@ by-column false true false h = refl
 by-column false false true h = refl
 by-column false false false h = refl
 
-module _ (n : ℕ) (t : List ℕ) (le : n ≤ 64) (clean : stray n t ≡ false) (next prev : Singles) (gn : SinglesOf n t next) (gp : SinglesOf n (upto 64 (col n t)) prev) where
-  col-at : (k : ℕ) → k < n → getD (upto 64 (col n t)) k 0 ≡ col n t k
+module _ (n : ℕ) (t : List ℕ) (le : n ≤ 64) (clean : stray n t ≡ false) (next prev : Singles) (gn : SinglesOf n t next) (gp : SinglesOf n (columns n t) prev) where
+  col-at : (k : ℕ) → k < n → getD (columns n t) k 0 ≡ col n t k
   col-at k l = getD-upto 64 (col n t) 0 k (lt-of-lt-of-le l le)
 
   -- some row or some column is empty
   pub stuck-is : next .empty || prev .empty ≡ stuck n t
-  unfolding stuck row
+  unfolding stuck
   stuck-is =
-      ap₂ (λ (a b : Bool). a || b) (gn .empty) (gp .empty ∙ any-ext n (λ k. eqb (getD (upto 64 (col n t)) k 0) 0) (λ k. eqb (col n t k) 0) (λ k l. ap (λ (w : ℕ). eqb w 0) (col-at k l)))
+      ap₂ (λ (a b : Bool). a || b) (gn .empty) (gp .empty ∙ any-ext n (λ k. eqb (getD (columns n t) k 0) 0) (λ k. eqb (col n t k) 0) (λ k l. ap (λ (w : ℕ). eqb w 0) (col-at k l)))
       ∙ sym (any-or n (λ k. eqb (getD t k 0) 0) (λ k. eqb (col n t k) 0))
 
   row-fits : (k : ℕ) → k < n → getD t k 0 < 2 ^ 64
-  unfolding row
   row-fits k l = lt-of-lt-of-le (stray-row n t le clean k l) (pow-mono le)
 
-  col-fits : (k : ℕ) → k < n → getD (upto 64 (col n t)) k 0 < 2 ^ 64
+  col-fits : (k : ℕ) → k < n → getD (columns n t) k 0 < 2 ^ 64
   unfolding col
   col-fits k l = lt-of-lt-of-le (ap-lt (col-at k l) (setOf-lt n (λ i. leg t i k))) (pow-mono le)
     where
@@ -96,21 +95,19 @@ module _ (n : ℕ) (t : List ℕ) (le : n ≤ 64) (clean : stray n t ≡ false) 
 
   module _ (i j : ℕ) (li : i < n) (lj : j < n) (stands : leg t i j ≡ true) where
     by-rows : cond (has (next .which) i) (has (next .twice) j) (has (next .once) j) ≡ nextTaken n t i j
-    unfolding nextTaken leg row
+    unfolding nextTaken leg
     by-rows =
         let low : j < 64 = lt-of-lt-of-le lj le in
         rw (gn .which i (lt-of-lt-of-le li le), gn .twice j low, gn .once j low, lt-ltb i n li) (another n t row-fits i j li low stands)
 
     by-columns : cond (has (prev .twice) i) false (cond (has (prev .once) i) (has (prev .which) j) true) ≡ not (prevTaken n (columns n t) i j)
-    unfolding prevTaken columns leg col
+    unfolding prevTaken leg col
     by-columns =
         let low : i < 64 = lt-of-lt-of-le li le in
-        let cols = upto 64 (col n t) in
+        let cols = columns n t in
         rw (gp .which j (lt-of-lt-of-le lj le), gp .twice i low, gp .once i low, lt-ltb j n lj)
         (by-column (any n (λ k. only cols i k && any k (only cols i))) (any n (only cols i)) (single (getD cols j 0)) (twice-once n (only cols i))
-        ∙ ap not (another n cols col-fits j i lj low (ap (λ (w : ℕ). has w i) (col-at j lj) ∙ has-setOf n (λ k. leg t k j) i li ∙ stands)
-        ∙ any-ext n (λ k. not (eqb k j) && eqb (getD cols k 0) (2 ^ i)) (λ k. not (eqb k j) && eqb (getD (columns n t) k 0) (2 ^ i))
-        (λ k l. ap (λ (w : ℕ). not (eqb k j) && eqb w (2 ^ i)) (col-at k l ∙ sym (getD-upto n (col n t) 0 k l)))))
+        ∙ ap not (another n cols col-fits j i lj low (ap (λ (w : ℕ). has w i) (col-at j lj) ∙ has-setOf n (λ k. leg t k j) i li ∙ stands)))
 
     keeps-is : keeps next prev i j ≡ not (goes i j)
     unfolding goes
@@ -151,13 +148,13 @@ unfolding sweptRow
 swept-in n t i w l e = e ∙ sym (cond-true _ 0 (lt-ltb i n l))
 
 pub swept-beyond : (n : ℕ) (t : List ℕ) → stray n t ≡ false → (i : ℕ) → n ≤ i → i < 64 → getD t i 0 ≡ sweptRow n t i
-unfolding sweptRow row
+unfolding sweptRow
 swept-beyond n t e i g l = stray-beyond n t e i g l ∙ sym (cond-false _ 0 (le-ltb i n g))
 
 -- ---- the verdict
 
-module _ (n : ℕ) (t : List ℕ) (le : n ≤ 64) (clean : stray n t ≡ false) (next prev : Singles) (gn : SinglesOf n t next) (cols : List ℕ) (is-cols : cols ≡ upto 64 (col n t)) (gc : SinglesOf n cols prev) where
-  pub of-columns : SinglesOf n (upto 64 (col n t)) prev
+module _ (n : ℕ) (t : List ℕ) (le : n ≤ 64) (clean : stray n t ≡ false) (next prev : Singles) (gn : SinglesOf n t next) (cols : List ℕ) (is-cols : cols ≡ columns n t) (gc : SinglesOf n cols prev) where
+  pub of-columns : SinglesOf n (columns n t) prev
   of-columns = subst (λ (c : List ℕ). SinglesOf n c prev) is-cols gc
 
   pub sweep-none : next .empty || prev .empty ≡ true → saysNone t ≡ sweep n t

@@ -11,16 +11,17 @@ use borrow.Author.Tests.{le-leb, lt-leb}
 use Rattle.bitset.specs.Sets.{size}
 use Rattle.bitset.proofs.BoolLaws.{cases, cond-true, cond-false}
 use Rattle.bitset.proofs.OnesLaws.{size-ones}
-use Rattle.circuit.specs.declared.Verdict.{Verdict}
+use Rattle.circuit.specs.declared.verdict.Verdict.{Verdict}
 use Rattle.circuit.specs.State.{stray}
 use Rattle.circuit.specs.Verdict.{leaves}
 use Rattle.separator.specs.Levels.{levels, inner}
 use Rattle.separator.specs.Level.{level}
-use Rattle.separator.specs.Strike.{LevelOf}
+use Rattle.separator.specs.inner.Strike.{LevelOf}
 use Rattle.separator.proofs.ExactLaws.{level-clean}
 use Rattle.separator.proofs.InnerLaws.{innerFrom, inner-start, inner-step, inner-end}
 use Rattle.filter.specs.Pass.{passOver, pass}
-use Rattle.filter.specs.Inner.{Columned, limited, TableTaken}
+use Rattle.circuit.specs.inner.Tables.{Columned}
+use Rattle.filter.specs.inner.Steps.{limited, TableTaken}
 
 -- ---- one level
 

@@ -2,11 +2,12 @@
 use mathlib.Core.Path.{_≡_}
 use mathlib.Core.Logic.{_⊎_}
 use Prim.Native.Nat.{ℕ}
-use Rattle.circuit.specs.declared.Work.{Work}
+use Rattle.circuit.specs.declared.state.Work.{Work}
 use Rattle.circuit.specs.Card.{ending}
 use Rattle.circuit.specs.Legs.{Subtable}
 use Rattle.circuit.specs.Round.{RoundOf}
 use Rattle.circuit.specs.State.{rowsOf, Good}
+use Rattle.filter.specs.Calls.{runCall}
 
 -- of a call that was given v and handed back w
 pub record Leads (v w : Work) : Type 0 where
@@ -21,3 +22,10 @@ pub record Leads (v w : Work) : Type 0 where
   pub none : w .end ≡ ending "none" → (v .end ≡ ending "none") ⊎ ((h : ℕ → ℕ) → RoundOf (v .n) (rowsOf v) h → ⊥)
   -- a good state stays good
   pub keeps : Good v → Good w
+
+-- of any work state and two budgets
+pub record Budgets (w : Work) (a b : ℕ) : Type 0 where
+  -- every leg gone after the smaller is gone after the larger
+  pub gone : Subtable (rowsOf (runCall w b .work)) (rowsOf (runCall w a .work))
+  -- where the smaller ends stable or none, the larger hands back the same state, steps and removals
+  pub same : ((runCall w a .work .end ≡ ending "stable") ⊎ (runCall w a .work .end ≡ ending "none")) → runCall w b ≡ runCall w a

@@ -13,12 +13,13 @@ use lib.Seq.{paste-suc, drop-cons, drop-at, take-at, getD-append-add, length-tak
 use mir.Val.{boolByte}
 use Rattle.bitset.specs.Sets.{digit}
 use Rattle.bitset.proofs.BoolLaws.{or-false-l, or-false-r, cond-elim}
-use Rattle.circuit.specs.declared.Answer.{Answer}
-use Rattle.circuit.specs.declared.Work.{Work}
-use Rattle.circuit.specs.declared.End.{End}
-use Rattle.circuit.specs.declared.End.the-variants.{Open, Stable, None}
+use Rattle.circuit.specs.declared.card.Answer.{Answer}
+use Rattle.circuit.specs.declared.state.Work.{Work}
+use Rattle.circuit.specs.declared.card.End.{End}
+use Rattle.circuit.specs.declared.card.End.the-variants.{Open, Stable, None}
 use Rattle.circuit.specs.State.{rowsOf, bad}
-use Rattle.loungeegret.specs.Words.{stateWords, endNumber, endOf, outOfRange, loaded, fields, stored, storedIn}
+use Rattle.circuit.specs.Card.{endCode, endOf}
+use Rattle.loungeegret.specs.Words.{stateWords, outOfRange, loaded, fields, stored, storedIn}
 use Rattle.loungeegret.specs.Results.{refuses, wordsAfter}
 
 -- ---- the mark and the end
@@ -45,17 +46,17 @@ one-digit zero h = refl
 one-digit (suc zero) h = refl
 one-digit (suc (suc k)) h = absurd (omega (arith, ltb-false 1 (suc (suc k)) h))
 
-end-most : (e : End) → ltb 2 (endNumber e) ≡ false
+end-most : (e : End) → ltb 2 (endCode e) ≡ false
 end-most Open = refl
 end-most Stable = refl
 end-most None = refl
 
-end-of-number : (e : End) → endOf (endNumber e) ≡ e
+end-of-number : (e : End) → endOf (endCode e) ≡ e
 end-of-number Open = refl
 end-of-number Stable = refl
 end-of-number None = refl
 
-number-of-end : (k : ℕ) → ltb 2 k ≡ false → endNumber (endOf k) ≡ k
+number-of-end : (k : ℕ) → ltb 2 k ≡ false → endCode (endOf k) ≡ k
 number-of-end zero h = refl
 number-of-end (suc zero) h = refl
 number-of-end (suc (suc zero)) h = refl

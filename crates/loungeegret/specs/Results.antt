@@ -6,13 +6,13 @@ use mathlib.Core.List.{List}
 use Prim.Native.Nat.{ℕ}
 use lib.Dec.{eqb}
 use Rattle.bitset.specs.Sets.{digit}
-use Rattle.circuit.specs.declared.Answer.{Answer}
-use Rattle.circuit.specs.declared.Work.{Work}
-use Rattle.circuit.specs.declared.Opened.{Opened}
-use Rattle.circuit.specs.declared.Called.{Called}
-use Rattle.circuit.specs.declared.Ran.{Ran}
-use Rattle.circuit.specs.declared.Checked.{Checked}
-use Rattle.circuit.specs.declared.Reported.{Reported}
+use Rattle.circuit.specs.declared.card.Answer.{Answer}
+use Rattle.circuit.specs.declared.state.Work.{Work}
+use Rattle.sheet.specs.declared.Opened.{Opened}
+use Rattle.filter.specs.declared.Called.{Called}
+use Rattle.filter.specs.declared.Ran.{Ran}
+use Rattle.circuit.specs.declared.list.Checked.{Checked}
+use Rattle.report.specs.declared.Reported.{Reported}
 use Rattle.circuit.specs.Card.{number}
 use Rattle.loungeegret.specs.Words.{tooFew, storedIn}
 

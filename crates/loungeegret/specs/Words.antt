@@ -5,9 +5,8 @@ use Prim.Native.Nat.{ℕ}
 use lib.Dec.{eqb, ltb}
 use lib.ListN.{getD, length, take, drop}
 use Rattle.bitset.specs.Sets.{digit}
-use Rattle.circuit.specs.declared.Work.{Work}
-use Rattle.circuit.specs.declared.End.{End}
-use Rattle.circuit.specs.declared.End.the-variants.{Open, Stable, None}
+use Rattle.circuit.specs.declared.state.Work.{Work}
+use Rattle.circuit.specs.Card.{endCode, endOf}
 use Rattle.circuit.specs.State.{rowsOf, state, blank}
 
 -- the number of words in a state
@@ -17,16 +16,6 @@ stateWords = 69
 -- too few words for a state
 abbrev pub tooFew : List ℕ → Bool
 tooFew s = ltb (length s) stateWords
-
--- the number of an end
-abbrev pub endNumber : End → ℕ
-endNumber Open = 0
-endNumber Stable = 1
-endNumber None = 2
-
--- the end with this number; none, where no end has it
-abbrev pub endOf : ℕ → End
-endOf k = cond (eqb k 0) Open (cond (eqb k 1) Stable None)
 
 -- the mark is neither 0 nor 1, or no end has the number
 abbrev pub outOfRange : List ℕ → Bool
@@ -40,7 +29,7 @@ loaded s =
 
 -- the words that follow the rows
 abbrev pub fields : Work → List ℕ
-fields w = w .n ∷ w .limit ∷ w .place ∷ digit (w .mark) ∷ endNumber (w .end) ∷ []
+fields w = w .n ∷ w .limit ∷ w .place ∷ digit (w .mark) ∷ endCode (w .end) ∷ []
 
 -- the words of the work state
 unfoldable pub stored : Work → List ℕ

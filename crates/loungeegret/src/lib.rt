@@ -15,7 +15,7 @@ ghost use Rattle.circuit.specs.Check.{checkCall};
 ghost use Rattle.sheet.specs.Open.{openCall};
 ghost use Rattle.report.specs.Lines.{reportCall, reportBytes};
 ghost use Rattle.filter.specs.Calls.{sweepCall, passCall, runCall};
-ghost use Rattle.loungeegret.specs.Words.{stateWords, endNumber, endOf, loaded, storedIn};
+ghost use Rattle.loungeegret.specs.Words.{stateWords, loaded, storedIn};
 ghost use Rattle.loungeegret.specs.Results.{wordsAfter, OpenResult, CallResult, RunResult, CheckResult, ReportResult};
 
 // Where the words stand that follow the rows of the table, and how many words a state has.
@@ -33,27 +33,6 @@ const STATE_WORDS: usize = 69;
 
 // The number for too few words.
 const NO_STATE: u32 = 100;
-
-// The end with this number; none, where no end has it.
-fn end_of(k: u64) -> End
-    ensures { λ r. ⌜ r ≡ endOf k ⌝ }
-{
-    match k {
-        0 => End::Open,
-        1 => End::Stable,
-        _ => End::None,
-    }
-}
-
-fn end_number(end: End) -> u64
-    ensures { λ r. ⌜ r ≡ endNumber end ⌝ }
-{
-    match end {
-        End::Open => 0,
-        End::Stable => 1,
-        End::None => 2,
-    }
-}
 
 // A cast of an element in place would ask that it fits; of a parameter that is known.
 fn size(x: u64) -> usize
@@ -91,7 +70,7 @@ fn load(state: &[u64]) -> Work
         size(state[LIMIT]),
         size(state[PLACE]),
         mark == 1,
-        end_of(end),
+        End::of_code(end),
     )
 }
 
@@ -116,7 +95,7 @@ fn store(state: &mut [u64], work: Work)
     state[PLACE] = work.place as u64;
     state[MARK] = work.mark as u64;
     let end = work.end;
-    state[END_NUMBER] = end_number(end);
+    state[END_NUMBER] = end.code();
     let table = work.table;
     let rows = table.rows;
     store_rows(state, rows);

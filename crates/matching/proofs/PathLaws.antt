@@ -10,7 +10,7 @@ use lib.ListN.{length}
 use Rattle.bitset.specs.Sets.{has}
 use Rattle.bitset.proofs.BoolLaws.{not-both, is-false}
 use Rattle.matching.specs.Matching.{In, Out, nth, Assigns}
-use Rattle.matching.specs.Paths.{Matched, Step, Forest}
+use Rattle.matching.specs.inner.Paths.{Matched, Step, Forest}
 use Rattle.matching.proofs.WordLaws.{Without}
 use Rattle.matching.proofs.PutLaws.{Put, put, put-is, put-same, put-other}
 

@@ -9,7 +9,7 @@ use native.Mathlib.Omega.{arith}
 use Rattle.bitset.specs.Sets.{has}
 use Rattle.bitset.proofs.BoolLaws.{not-both, is-false}
 use Rattle.matching.specs.Matching.{In, Out, nth}
-use Rattle.matching.specs.Paths.{Step, Forest, Blocked}
+use Rattle.matching.specs.inner.Paths.{Step, Forest, Blocked}
 use Rattle.matching.proofs.WordLaws.{With, Without}
 use Rattle.matching.proofs.PutLaws.{Put, put, put-is, put-same, put-other}
 

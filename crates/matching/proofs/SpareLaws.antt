@@ -8,7 +8,7 @@ use native.Mathlib.Omega.{arith}
 use Rattle.bitset.specs.Sets.{has}
 use Rattle.bitset.proofs.BoolLaws.{cases}
 use Rattle.matching.specs.Matching.{In, Out, nth, Assigns, LeftOut}
-use Rattle.matching.specs.Paths.{Matched, Step, Forest}
+use Rattle.matching.specs.inner.Paths.{Matched, Step, Forest}
 use Rattle.matching.proofs.PutLaws.{Put, put, put-is, put-other}
 use Rattle.matching.proofs.PathLaws.{fill}
 

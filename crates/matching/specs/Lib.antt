@@ -1,3 +1,3 @@
 -- Matchings of components with stations.
 pub mod Matching
-pub mod Paths
+pub mod inner

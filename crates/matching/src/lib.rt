@@ -4,7 +4,7 @@ ghost use mathlib.Core.Path.{_≡_};
 ghost use Prim.Native.Nat.{ℕ, _+_, _<_, _≤_};
 ghost use lib.ListN.{length};
 ghost use Rattle.matching.specs.Matching.{In, Out, nth, Inside, Exact};
-ghost use Rattle.matching.specs.Paths.{Matched, Reached, Augmenting, Extended};
+ghost use Rattle.matching.specs.inner.Paths.{Matched, Reached, Augmenting, Extended};
 
 // Whether there is an assignment, and the stations that some assignment leaves out.
 pub struct Assigned {

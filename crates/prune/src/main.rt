@@ -1,8 +1,8 @@
 // Reads a sheet from standard input, opens it with limit 64, runs with budget 300,000, and prints what is left.
 use circuit::Answer;
 use circuit::End;
-use circuit::Ran;
 use circuit::Work;
+use filter::Ran;
 use libc::STDIN_FILENO;
 use libc::STDOUT_FILENO;
 

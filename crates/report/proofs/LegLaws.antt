@@ -19,9 +19,10 @@ use Rattle.bitset.proofs.SetLaws.{has-diff}
 use Rattle.bitset.proofs.OnesLaws.{size-ones}
 use Rattle.bitset.proofs.LeastLaws.{trailing-least, has-clear}
 use Rattle.bitset.proofs.MachineLaws.{has-ones}
-use Rattle.circuit.specs.Legs.{row, leg}
+use Rattle.bitset.specs.Upto.{row}
+use Rattle.circuit.specs.Legs.{leg}
 use Rattle.report.specs.Lines.{nexts}
-use Rattle.report.specs.Writer.{legTo, legsTo}
+use Rattle.report.specs.inner.Writer.{legTo, legsTo}
 use Rattle.report.proofs.NumeralLaws.{numeral-one, numeral-two, station-numeral}
 
 -- members below k do not matter

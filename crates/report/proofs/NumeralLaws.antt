@@ -10,7 +10,7 @@ use lib.ListN.{length, length-append}
 use borrow.Author.Tests.{lt-ltb, le-ltb, ltb-true, ltb-false}
 use Rattle.bitset.proofs.BoolLaws.{cond-true, cond-false, cond-elim}
 use Rattle.report.specs.Lines.{decimal}
-use Rattle.report.specs.Writer.{digits, numeral}
+use Rattle.report.specs.inner.Writer.{digits, numeral}
 
 -- the last digit
 abbrev last : ℕ → List ℕ

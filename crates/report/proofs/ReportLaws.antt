@@ -6,13 +6,13 @@ use Prim.Native.Nat.{ℕ, _≤_, _<_}
 use lib.ListN.{length}
 use borrow.Author.Tests.{lt-ltb, le-ltb}
 use Rattle.bitset.proofs.BoolLaws.{or-l, cond-true}
-use Rattle.circuit.specs.declared.Work.{Work}
-use Rattle.circuit.specs.declared.Reported.{Reported}
+use Rattle.circuit.specs.declared.state.Work.{Work}
+use Rattle.report.specs.declared.Reported.{Reported}
 use Rattle.circuit.specs.Card.{card}
 use Rattle.circuit.specs.State.{rowsOf, bad}
 use Rattle.circuit.proofs.StateLaws.{good, stray-row}
 use Rattle.report.specs.Lines.{text, short, reportCall, reportBytes}
-use Rattle.report.specs.Writer.{Wrote, Bounded}
+use Rattle.report.specs.inner.Writer.{Wrote, Bounded}
 
 pub good-rows : (w : Work) → bad w ≡ false → (w .n ≤ 64) × Bounded (w .n) (rowsOf w)
 good-rows w e = let g = good w e in (g .most, stray-row (w .n) (rowsOf w) (g .most) (g .table))

@@ -6,9 +6,9 @@ use native.Mathlib.Numerals.{add-one}
 use native.Mathlib.Omega.{arith}
 use lib.ListN.{length, length-append}
 use Rattle.bitset.proofs.HasLaws.{has-above}
-use Rattle.circuit.specs.Legs.{row}
+use Rattle.bitset.specs.Upto.{row}
 use Rattle.report.specs.Lines.{nexts, lineOf, linesFrom}
-use Rattle.report.specs.Writer.{numeral, legsTo, lineTo, Bounded}
+use Rattle.report.specs.inner.Writer.{numeral, legsTo, lineTo, Bounded}
 use Rattle.report.proofs.NumeralLaws.{station-numeral}
 use Rattle.report.proofs.LegLaws.{legs-nexts, legs-pad}
 

@@ -10,7 +10,8 @@ use Rattle.bitset.specs.Sets.{has, any}
 use Rattle.bitset.proofs.BoolLaws.{iff, clash}
 use Rattle.bitset.proofs.HasLaws.{has-zero, has-above}
 use Rattle.bitset.proofs.QuantLaws.{below?, any-intro, any-elim}
-use Rattle.circuit.specs.Legs.{row, leg}
+use Rattle.bitset.specs.Upto.{row}
+use Rattle.circuit.specs.Legs.{leg}
 use Rattle.circuit.specs.State.{stray}
 use Rattle.circuit.proofs.StateLaws.{stray-row, stray-beyond}
 

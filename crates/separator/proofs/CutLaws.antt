@@ -14,17 +14,17 @@ use lib.ListN.{getD, length, set, length-set}
 use lib.Seq.{ext-getD, getD-set-same, getD-set-other}
 use borrow.Author.Tests.{eqb-true, eqb-false, not-true}
 use Rattle.bitset.specs.Sets.{has, setOf}
-use Rattle.bitset.specs.Upto.{upto}
+use Rattle.bitset.specs.Upto.{row}
 use Rattle.bitset.proofs.BoolLaws.{iff, cases, and-intro, and-l, and-r, cond-true, cond-false, cond-elim, taut2, taut3}
 use Rattle.bitset.proofs.HasLaws.{has-zero, has-and, has-or, has-not, ext}
 use Rattle.bitset.proofs.SetLaws.{has-setOf, setOf-lt, setOf-above, eq-setOf, has-diff}
 use Rattle.bitset.proofs.QuantLaws.{below?}
 use Rattle.bitset.proofs.LeastLaws.{trailing-least, has-clear}
 use Rattle.bitset.proofs.UptoLaws.{getD-upto, length-upto, upto-of}
-use Rattle.circuit.specs.Legs.{row, leg, col, tableOf, without}
+use Rattle.circuit.specs.Legs.{columns, leg, col, tableOf, without}
 use Rattle.circuit.specs.State.{stray}
 use Rattle.circuit.proofs.LegsLaws.{row-in, row-out, tableOf-leg, without-stays}
-use Rattle.separator.specs.Spares.{cuts, cutRow, Cut}
+use Rattle.separator.specs.inner.Spares.{cuts, cutRow, Cut}
 use Rattle.separator.proofs.CleanLaws.{row-fits, leg-low}
 
 -- ---- one word
@@ -129,7 +129,7 @@ module _ (s out into : ℕ) (before : List ℕ) where
 
 -- a leg of the table that is left
 cut-leg : {s out into : ℕ} {t u : List ℕ} → Cut s out into t u → (i j : ℕ) → i < 64 → j < 64 → leg u i j ≡ leg t i j && not (cuts s out into i j)
-unfolding leg row
+unfolding leg
 cut-leg {s} {out} {into} {t} {u} C i j li lj = ap (λ (w : ℕ). has w j) (C .word i li) ∙ cut-has s out into i (getD t i 0) j lj
 
 module _ (n : ℕ) (t : List ℕ) (most : n ≤ 64) (clean : stray n t ≡ false) where
@@ -140,8 +140,8 @@ module _ (n : ℕ) (t : List ℕ) (most : n ≤ 64) (clean : stray n t ≡ false
       ext-getD 0 u (without n t goes) (C .size ∙ sym size) (λ i l.
       let li : i < 64 = omega (arith, C .size) in
       ext 64 (getD u i 0) (getD (without n t goes) i 0)
-      (subst (λ (w : ℕ). w < 2 ^ 64) (sym (C .word i li)) (cut-lt s out into i (getD t i 0) (unfold row in (row-fits n t most clean i li))))
-      (unfold row in (left-fits i)) (λ j lj. unfold leg in unfold row in (legs i j li lj)))
+      (subst (λ (w : ℕ). w < 2 ^ 64) (sym (C .word i li)) (cut-lt s out into i (getD t i 0) (row-fits n t most clean i li)))
+      (left-fits i) (λ j lj. unfold leg in (legs i j li lj)))
     where
       stays : ℕ → ℕ → Bool
       stays i j = leg t i j && not (goes i j)
@@ -171,8 +171,8 @@ module _ (n : ℕ) (t : List ℕ) (most : n ≤ 64) (clean : stray n t ≡ false
           cut-leg C i j li lj ∙ and-intro on (ap not (sym (same i j (f .0) (f .1) on)) ∙ and-r (leg t i j) (not (goes i j)) (f .2)))
 
 -- the columns, cut with the roles of `out` and `into` swapped, are the columns of the rows that are left
-pub cut-cols : {s out into : ℕ} {t u v : List ℕ} (n : ℕ) → n ≤ 64 → Cut s out into t u → Cut s into out (upto 64 (col n t)) v
-    → v ≡ upto 64 (col n u)
+pub cut-cols : {s out into : ℕ} {t u v : List ℕ} (n : ℕ) → n ≤ 64 → Cut s out into t u → Cut s into out (columns n t) v
+    → v ≡ columns n u
 unfolding col
 cut-cols {s} {out} {into} {t} {u} {v} n most C D =
     upto-of 64 (col n u) 0 v (D .size) (λ k l. D .word k l ∙ ap (cutRow s into out k) (getD-upto 64 (col n t) 0 k l) ∙ column k l)

@@ -19,9 +19,9 @@ use Rattle.bitset.proofs.QuantLaws.{any-intro, any-elim, any-none, any-ext}
 use Rattle.bitset.proofs.LeastLaws.{trailing-least, has-clear}
 use Rattle.bitset.proofs.MemberLaws.{any-least, any-empty}
 use Rattle.bitset.proofs.MachineLaws.{shl-one, has-remove}
-use Rattle.circuit.specs.Legs.{row, leg, col}
+use Rattle.circuit.specs.Legs.{leg, col}
 use Rattle.separator.specs.Level.{stands}
-use Rattle.separator.specs.Spares.{pair, markAt, through, bare, entered, EndsOf}
+use Rattle.separator.specs.inner.Spares.{pair, markAt, through, bare, entered, EndsOf}
 
 eqb-swap : (a b : ℕ) → eqb a b ≡ eqb b a
 eqb-swap a b = iff (eqb a b) (eqb b a) (λ e. eq-eqb b a (sym (eqb-true a b e))) (λ e. eq-eqb a b (sym (eqb-true b a e)))
@@ -57,7 +57,7 @@ meet-none a w e = any-none 64 (λ k. has a k && has w k) (λ k l. sym (has-and a
 
 pub entered-is : (t : List ℕ) (s w u : ℕ) → s < 2 ^ 64 → u ≡ setOf 64 (λ k. any 64 (λ i. has w i && has (getD t i 0) k))
     → bitAnd u s ≡ entered t s w
-unfolding entered meet col leg row
+unfolding entered meet col leg
 entered-is t s w u h e =
     eq-setOf 64 (bitAnd u s) _ (omega (arith, and-le-r u s))
     (λ k l. has-and u s k ∙ and-comm (has u k) (has s k) ∙ ap (λ (x : Bool). has s k && x)
@@ -75,7 +75,7 @@ others v i p h l f =
 
 pub through-some : (t : List ℕ) (s w v i : ℕ) → i < 64 → has s i ≡ true → v ≡ entered t s w → w < 2 ^ 64 → 0 < bitAnd (getD t i 0) w
     → bitAnd v ((2 ^ 64 - 1) - (1 * 2 ^ i) % 2 ^ 64) ≡ setOf 64 (through t s w i)
-unfolding entered markAt pair stands row
+unfolding entered markAt pair stands
 through-some t s w v i l e q h p =
     let from : ℕ → Bool = λ j. meet 64 (col 64 t j) w in
     others v i (through t s w i) (word-lt 64 (λ j. has s j && from j) q) l (λ j lj.
@@ -84,7 +84,7 @@ through-some t s w v i l e q h p =
     ∙ ap₂ (λ (x y : Bool). x && has s j && not (eqb i j) && (y && from j)) (sym e) (sym (meet-some (getD t i 0) w h p)))
 
 pub through-none : (t : List ℕ) (s w i : ℕ) → bitAnd (getD t i 0) w ≡ 0 → 0 ≡ setOf 64 (through t s w i)
-unfolding markAt stands row
+unfolding markAt stands
 through-none t s w i z =
     eq-setOf 64 0 _ (omega arith) (λ j l. has-zero j ∙ sym (
     ap (λ (x : Bool). pair s i j && (x && meet 64 (col 64 t j) w)) (meet-none (getD t i 0) w z)
@@ -92,7 +92,7 @@ through-none t s w i z =
 
 pub bare-is : (t : List ℕ) (s i : ℕ) → s < 2 ^ 64 → i < 64 → has s i ≡ true
     → bitAnd (bitAnd (getD t i 0) s) ((2 ^ 64 - 1) - (1 * 2 ^ i) % 2 ^ 64) ≡ setOf 64 (bare t s i)
-unfolding markAt pair stands leg row
+unfolding markAt pair stands leg
 bare-is t s i h l e =
     let r : ℕ = getD t i 0 in
     others (bitAnd r s) i (bare t s i) (omega (arith, and-le-r r s)) l (λ j lj.

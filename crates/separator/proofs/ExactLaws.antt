@@ -5,14 +5,14 @@ use mathlib.Core.List.{List}
 use Prim.Native.Nat.{ℕ, _≤_}
 use borrow.Author.Tests.{not-true, not-false}
 use Rattle.bitset.proofs.BoolLaws.{cond-true, cond-false, cond-elim}
-use Rattle.circuit.specs.declared.Verdict.{Verdict}
+use Rattle.circuit.specs.declared.verdict.Verdict.{Verdict}
 use Rattle.circuit.specs.Legs.{without}
 use Rattle.circuit.specs.State.{stray}
 use Rattle.circuit.specs.Verdict.{saysNone, leaves}
 use Rattle.circuit.proofs.StateLaws.{stray-without}
 use Rattle.separator.specs.declared.level.Spares.{Spares}
 use Rattle.separator.specs.Level.{marking, passable, struck, levelBy, level}
-use Rattle.separator.specs.Spares.{Cut, SparesOf}
+use Rattle.separator.specs.inner.Spares.{Cut, SparesOf}
 use Rattle.separator.proofs.CutLaws.{cut-rows}
 
 module _ (n : ℕ) (t : List ℕ) (s : ℕ) where

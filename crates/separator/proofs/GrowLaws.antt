@@ -5,7 +5,8 @@ use mathlib.Core.Bool.{Bool, true, false, not, _&&_, _||_}
 use Prim.Native.Nat.{ℕ, zero, suc, _^_, _<_}
 use lib.Bits.{bitOr, or-lt}
 use lib.Pow.{pow-lt}
-use Rattle.bitset.specs.Sets.{has, Within}
+use Rattle.bitset.specs.Sets.{has}
+use Rattle.bitset.specs.inner.Members.{Within}
 use Rattle.bitset.proofs.BoolLaws.{iff, not-both, cases, and-intro, and-l, and-r, or-l, or-r, or-cases}
 use Rattle.bitset.proofs.QuantLaws.{any-intro, any-elim}
 use Rattle.bitset.proofs.HasLaws.{has-zero, has-or, ext}

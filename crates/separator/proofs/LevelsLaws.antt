@@ -17,7 +17,7 @@ use Rattle.bitset.proofs.QuantLaws.{any-ext}
 use Rattle.bitset.proofs.HasLaws.{has-zero, has-or}
 use Rattle.bitset.proofs.SetLaws.{setOf-lt, eq-setOf, or-setOf}
 use Rattle.separator.specs.Levels.{neighbourhood, levelsFrom, levels}
-use Rattle.separator.specs.Linked.{stationsOf}
+use Rattle.separator.specs.inner.Linked.{stationsOf}
 use Rattle.separator.proofs.ArrayLaws.{written-more, written-all}
 
 from-more : (f n : ℕ) (t : List ℕ) (seen last next : ℕ) → 0 < last → next ≡ minus n (neighbourhood n t last) seen

@@ -9,7 +9,8 @@ use lib.Bits.{bitAnd, and-le-l}
 use lib.Count.{ones, ones-le, trailingZeros}
 use lib.ListN.{length, take, set}
 use borrow.Author.Tests.{ne-eqb}
-use Rattle.bitset.specs.Sets.{has, first, minus, Least}
+use Rattle.bitset.specs.Sets.{has, first, minus}
+use Rattle.bitset.specs.inner.Members.{Least}
 use Rattle.bitset.proofs.BoolLaws.{and-l, cond-false}
 use Rattle.bitset.proofs.FirstLaws.{first-at, before-first}
 use Rattle.bitset.proofs.SetLaws.{has-diff}

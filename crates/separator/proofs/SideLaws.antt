@@ -19,7 +19,7 @@ use Rattle.bitset.proofs.QuantLaws.{at-or-below, any-elim}
 use Rattle.bitset.proofs.LeastLaws.{trailing-least}
 use Rattle.bitset.proofs.MachineLaws.{within-of-diff}
 use Rattle.matching.specs.Matching.{Inside, Exact}
-use Rattle.separator.specs.Spares.{Side, Settled}
+use Rattle.separator.specs.inner.Spares.{Side, Settled}
 use Rattle.separator.proofs.EndsLaws.{word-lt, word-has}
 
 -- ---- gathering: the bare marks first, then one component after the other

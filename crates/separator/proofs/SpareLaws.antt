@@ -18,7 +18,7 @@ use Rattle.matching.specs.Matching.{nth, Assignment, Exact}
 use Rattle.separator.specs.declared.level.Spares.{Spares}
 use Rattle.separator.specs.Components.{components}
 use Rattle.separator.specs.Level.{Marking, marking, marked, choice, outMay, inMay, takes, passable, struck}
-use Rattle.separator.specs.Spares.{markAt, Side, Settled, SparesOf}
+use Rattle.separator.specs.inner.Spares.{markAt, Side, Settled, SparesOf}
 use Rattle.separator.proofs.RepresentativeLaws.{Representatives, AllMarked, CanTake, choice-gives, choice-found}
 use Rattle.separator.proofs.TakesLaws.{takes-gives, takes-found}
 use Rattle.separator.proofs.EndsLaws.{word-has, markAt-pair}

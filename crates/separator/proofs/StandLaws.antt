@@ -21,7 +21,7 @@ use Rattle.circuit.specs.State.{stray}
 use Rattle.circuit.proofs.StateLaws.{stray-self}
 use Rattle.separator.specs.Components.{components}
 use Rattle.separator.specs.Level.{stands, markingBy, marking, marked}
-use Rattle.separator.specs.Spares.{pair, markAt}
+use Rattle.separator.specs.inner.Spares.{pair, markAt}
 use Rattle.separator.proofs.CleanLaws.{any-low, leg-low}
 
 -- a mark of a marking: on a pair of the level, what stands

@@ -18,9 +18,10 @@ use Rattle.bitset.proofs.HasLaws.{has-and, has-or, has-above, ext}
 use Rattle.bitset.proofs.SetLaws.{setOf-lt, has-setOf, setOf-elim, eq-setOf, has-diff, none-zero}
 use Rattle.bitset.proofs.OnesLaws.{ones-disjoint}
 use Rattle.bitset.proofs.MachineLaws.{full-setOf}
-use Rattle.circuit.specs.Legs.{row, leg, col, neighbours}
+use Rattle.bitset.specs.Upto.{row}
+use Rattle.circuit.specs.Legs.{leg, col, neighbours}
 use Rattle.separator.specs.Levels.{neighbourhood}
-use Rattle.separator.specs.Linked.{Linked}
+use Rattle.separator.specs.inner.Linked.{Linked}
 
 pub wide : {n w : ℕ} → n ≤ 64 → w < 2 ^ n → w < 2 ^ 64
 wide l h = lt-of-lt-of-le h (pow-mono l)

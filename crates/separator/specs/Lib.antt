@@ -2,7 +2,5 @@
 pub mod Choice
 pub mod Levels
 pub mod Components
-pub mod Linked
 pub mod Level
-pub mod Spares
-pub mod Strike
+pub mod inner

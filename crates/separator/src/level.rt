@@ -7,7 +7,7 @@ ghost use Rattle.bitset.specs.Sets.{has, setOf};
 ghost use Rattle.circuit.specs.State.{stray};
 ghost use Rattle.matching.specs.Matching.{Inside};
 ghost use Rattle.separator.specs.Components.{components};
-ghost use Rattle.separator.specs.Spares.{markAt, through, bare, entered, EndsOf, Side, Settled, SparesOf, cutRow, Cut};
+ghost use Rattle.separator.specs.inner.Spares.{markAt, through, bare, entered, EndsOf, Side, Settled, SparesOf, cutRow, Cut};
 
 // What one level allows: none, or the stations that some out-choice and some in-choice leave free for a bare leg.
 pub struct Spares {

@@ -7,11 +7,11 @@ ghost use mathlib.Core.Path.{_≡_};
 ghost use Prim.Native.Nat.{ℕ, _^_, _<_, _≤_};
 ghost use lib.ListN.{take};
 ghost use Rattle.bitset.specs.Sets.{has, setOf};
-ghost use Rattle.bitset.specs.Upto.{upto};
-ghost use Rattle.circuit.specs.Legs.{col, neighbours, Square};
+ghost use Rattle.circuit.specs.Legs.{columns, neighbours};
+ghost use Rattle.circuit.specs.inner.Tables.{Square};
 ghost use Rattle.separator.specs.Levels.{neighbourhood, levels};
 ghost use Rattle.separator.specs.Components.{grow, components};
-ghost use Rattle.separator.specs.Linked.{Linked, stationsOf};
+ghost use Rattle.separator.specs.inner.Linked.{Linked, stationsOf};
 
 // Level k stands at `level[k]`, for k below `count`; `reached` has the stations of all levels.
 pub struct Levels {
@@ -28,7 +28,7 @@ pub struct Parts {
 
 // The stations with a leg to or from each station.
 pub fn neighbours(rows: &[u64; 64], cols: &[u64; 64], n: usize) -> [u64; 64]
-    requires { ⌜ (n ≤ 64) × Square n (now rows) × (now cols ≡ upto 64 (col n (now rows))) ⌝ }
+    requires { ⌜ (n ≤ 64) × Square n (now rows) × (now cols ≡ columns n (now rows)) ⌝ }
     ensures { λ r. ⌜ Linked n (now (rows .entry)) r ⌝ }
 {
     let mut out = [0u64; 64];

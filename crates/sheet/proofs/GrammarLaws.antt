@@ -11,7 +11,7 @@ use Rattle.bitset.proofs.HasLaws.{has-above}
 use Rattle.circuit.specs.Card.{card}
 use Rattle.circuit.specs.Legs.{tableOf}
 use Rattle.circuit.specs.State.{fresh}
-use Rattle.circuit.specs.declared.Opened.{Opened}
+use Rattle.sheet.specs.declared.Opened.{Opened}
 use Rattle.circuit.proofs.StateLaws.{not-outside}
 use Rattle.sheet.specs.Layout.{Entry, Page, entriesBytes, bytesOf, Each, EntryFits, WellFormed, given}
 use Rattle.sheet.specs.Open.{opened, refused, openCall}

@@ -16,12 +16,12 @@ use borrow.Author.Tests.{lt-ltb, le-ltb, le-leb, lt-leb, eq-eqb, eqb-true}
 use Rattle.bitset.specs.Sets.{has, setOf, outside}
 use Rattle.bitset.proofs.BoolLaws.{iff}
 use Rattle.bitset.proofs.SetLaws.{setOf-has, setOf-full, setOf-ext, setOf-and}
-use Rattle.circuit.specs.declared.Answer.{Answer}
-use Rattle.circuit.specs.declared.Answer.the-variants.{CutSheet, UnknownBit, StrayStation}
+use Rattle.circuit.specs.declared.card.Answer.{Answer}
+use Rattle.circuit.specs.declared.card.Answer.the-variants.{CutSheet, UnknownBit, StrayStation}
 use Rattle.circuit.proofs.StateLaws.{inside}
 use Rattle.sheet.specs.Layout.{allows, fixes}
 use Rattle.sheet.specs.Open.{Got, fault, little, readSet, readFixed, readEntry}
-use Rattle.sheet.specs.Reader.{GotAt, FaultAt, IsField, IsRecord}
+use Rattle.sheet.specs.inner.Reader.{GotAt, FaultAt, IsField, IsRecord}
 use Rattle.sheet.specs.declared.Field.{Field}
 use Rattle.sheet.specs.declared.Field.the-variants.{Allows}
 use Rattle.sheet.specs.declared.Read.{Read}

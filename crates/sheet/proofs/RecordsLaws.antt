@@ -10,15 +10,16 @@ use lib.Dec.{ltb}
 use lib.Pow.{pow-pos}
 use lib.ListN.{length, getD, take, drop, set, length-drop, length-append, length-set, drop-of-length-le}
 use lib.Seq.{drop-cons, drop-drop, take-suc-set}
-use Rattle.circuit.specs.declared.Answer.{Answer}
-use Rattle.circuit.specs.declared.Answer.the-variants.{Taken, Overhang}
+use Rattle.circuit.specs.declared.card.Answer.{Answer}
+use Rattle.circuit.specs.declared.card.Answer.the-variants.{Taken, Overhang}
 use Rattle.bitset.specs.Sets.{setOf}
 use Rattle.bitset.proofs.MachineLaws.{full-setOf}
-use Rattle.circuit.specs.Legs.{row, tableOf, Square}
+use Rattle.circuit.specs.Legs.{tableOf}
+use Rattle.circuit.specs.inner.Tables.{Square}
 use Rattle.circuit.specs.State.{fresh}
 use Rattle.sheet.specs.Layout.{Entry, Page, given}
 use Rattle.sheet.specs.Open.{Got, got, fault, _then_, readEntry, readEntries, readEnd, refused, opened}
-use Rattle.sheet.specs.Reader.{GotAt, FaultAt, nextOf, prevOf, legal, readRest}
+use Rattle.sheet.specs.inner.Reader.{GotAt, FaultAt, nextOf, prevOf, legal, readRest}
 use Rattle.sheet.proofs.TableLaws.{barredOf, free, mapped-at, legal-given}
 
 -- ---- i records, then k records
@@ -115,7 +116,6 @@ module _ {n : ℕ} {s next barred : List ℕ} {at : ℕ} (limit : ℕ) (h : SoFa
 
   -- the barred stations are below n
   pub so-far-square : n ≤ 64 → Square n barred
-  unfolding row
   so-far-square le k l =
       let all = setOf 64 (λ j. ltb j n) in
       let e = getD (h .entries) k free in

@@ -20,10 +20,10 @@ use Rattle.bitset.proofs.QuantLaws.{below?}
 use Rattle.bitset.proofs.HasLaws.{has-and, has-not}
 use Rattle.bitset.proofs.SetLaws.{setOf-lt, has-setOf, eq-setOf, setOf-ext}
 use Rattle.bitset.proofs.UptoLaws.{getD-upto, upto-cong}
-use Rattle.circuit.specs.Legs.{row, leg, col, tableOf, fullTable}
+use Rattle.circuit.specs.Legs.{columns, leg, col, tableOf, fullTable}
 use Rattle.circuit.proofs.LegsLaws.{row-in, row-out}
 use Rattle.sheet.specs.Layout.{Entry, Page, allows, fixes, entryAt, given}
-use Rattle.sheet.specs.Reader.{nextOf, prevOf, legal}
+use Rattle.sheet.specs.inner.Reader.{nextOf, prevOf, legal}
 
 -- row i of the table
 abbrev pub legalRow : ℕ → List ℕ → List ℕ → ℕ → ℕ
@@ -36,10 +36,10 @@ legal-rows n next barred = refl
 module _ (n i : ℕ) (next barred : List ℕ) (le : n ≤ 64) (h : i < 64) where
   -- the stations that i may not come before
   abbrev bars : ℕ
-  bars = getD (upto 64 (col n barred)) i 0
+  bars = getD (columns n barred) i 0
 
   bars-is : bars ≡ setOf n (λ j. has (getD barred j 0) i)
-  unfolding col leg row
+  unfolding col leg
   bars-is = getD-upto 64 (col n barred) 0 i h
 
   kept : (j : ℕ) → j < n → has ((2 ^ 64 - 1) - bars) j ≡ not (has (getD barred j 0) i)
@@ -62,7 +62,7 @@ module _ (n i : ℕ) (next barred : List ℕ) (le : n ≤ 64) (h : i < 64) where
 
   -- `rows[i] & next[i] & !cols[i]`, from the row of the full table
   pub row-is : bitAnd (getD (fullTable n) i 0) allowed ≡ legalRow n next barred i
-  unfolding fullTable row
+  unfolding fullTable
   row-is =
       ⊎-elim
       (λ (l : i < n).

@@ -7,10 +7,10 @@ use native.Mathlib.Omega.{arith}
 use lib.Dec.{ltb}
 use borrow.Author.Tests.{lt-ltb, le-ltb}
 use Rattle.bitset.proofs.BoolLaws.{cond-true, cond-false}
-use Rattle.circuit.specs.declared.Work.{Work}
-use Rattle.circuit.specs.declared.Verdict.{Verdict}
-use Rattle.circuit.specs.declared.End.{End}
-use Rattle.circuit.specs.declared.End.the-variants.{Open, Stable, None}
+use Rattle.circuit.specs.declared.state.Work.{Work}
+use Rattle.circuit.specs.declared.verdict.Verdict.{Verdict}
+use Rattle.circuit.specs.declared.card.End.{End}
+use Rattle.circuit.specs.declared.card.End.the-variants.{Open, Stable, None}
 use Rattle.circuit.specs.State.{moved, lastPlace}
 use Rattle.filter.specs.Calls.{gone, after}
 use Rattle.filter.proofs.StepLaws.{after-none, after-next, after-last}

@@ -6,13 +6,13 @@ use Prim.Native.Nat.{ℕ, pred, _-_, _≤_}
 use native.Mathlib.Omega.{arith}
 use lib.ListN.{length}
 use Rattle.bitset.specs.Sets.{outside}
-use Rattle.circuit.specs.declared.Work.{Work}
-use Rattle.circuit.specs.declared.Verdict.{Verdict}
+use Rattle.circuit.specs.declared.state.Work.{Work}
+use Rattle.circuit.specs.declared.verdict.Verdict.{Verdict}
 use Rattle.circuit.specs.State.{rowsOf, bad, Good}
 use Rattle.circuit.proofs.StateLaws.{inside, good, stray-row}
 use Rattle.filter.specs.Pass.{pass}
 use Rattle.filter.specs.Calls.{byHand}
-use Rattle.filter.specs.Inner.{Within}
+use Rattle.filter.specs.inner.Steps.{Within}
 use Rattle.filter.proofs.PassLaws.{pass-sound}
 use Rattle.filter.proofs.HandLaws.{within, hand-ended, pass-bad, pass-stray, pass-good}
 use Rattle.filter.proofs.pass.Statement.{statement}

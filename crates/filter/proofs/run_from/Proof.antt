@@ -6,14 +6,14 @@ use mathlib.Core.List.{List}
 use Prim.Native.Nat.{ℕ, _+_, _-_, _≤_}
 use native.Mathlib.Omega.{arith}
 use lib.ListN.{length}
-use Rattle.circuit.specs.declared.Work.{Work}
-use Rattle.circuit.specs.declared.Ran.{Ran}
-use Rattle.circuit.specs.declared.Answer.the-variants.{Taken}
+use Rattle.circuit.specs.declared.state.Work.{Work}
+use Rattle.filter.specs.declared.Ran.{Ran}
+use Rattle.circuit.specs.declared.card.Answer.the-variants.{Taken}
 use Rattle.circuit.specs.State.{rowsOf, moved, Good}
 use Rattle.circuit.proofs.StateLaws.{stray-row}
 use Rattle.filter.specs.declared.Cursor.{Cursor}
 use Rattle.filter.specs.Calls.{gone}
-use Rattle.filter.specs.Inner.{Columned}
+use Rattle.circuit.specs.inner.Tables.{Columned}
 use Rattle.filter.proofs.StepLaws.{place-verdict, place-sub, step-is, legs-most, Run, run-start, run-fits, run-turn, run-spent, run-ended}
 use Rattle.filter.proofs.run_from.Statement.{statement}
 use Rattle.filter.proofs.run_from.Tie as tie

@@ -12,7 +12,7 @@ use lib.ListN.{getD}
 use borrow.Author.Tests.{eqb-true}
 use Rattle.bitset.proofs.BoolLaws.{and-l, and-r}
 use Rattle.bitset.proofs.QuantLaws.{at-or-below}
-use Rattle.circuit.specs.Legs.{row}
+use Rattle.bitset.specs.Upto.{row}
 use Rattle.filter.proofs.same_rows.Statement.{statement}
 use Rattle.filter.proofs.same_rows.Tie as tie
 
@@ -44,7 +44,6 @@ loop-less : tie.Need-loop-less Inv-loop μ-loop
 loop-less c = search needs
 
 loop-again : tie.Need-loop-again Inv-loop μ-loop
-unfolding row
 loop-again c =
     let v = c .before .before .before .loop in
     let a = c .before .before .before .before .args .a .now in

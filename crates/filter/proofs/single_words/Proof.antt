@@ -4,7 +4,7 @@ use mathlib.Core.Path.{_≡_, subst}
 use Prim.Native.Nat.{ℕ, _-_, _^_, _≤_, _<_}
 use native.Mathlib.Omega.{arith}
 use lib.Bits.{bitAnd, and-le-l, or-lt}
-use Rattle.filter.specs.Singles.{SinglesOf}
+use Rattle.filter.specs.inner.Singles.{SinglesOf}
 use Rattle.filter.proofs.SinglesLaws.{singles-start, singles-turn}
 use Rattle.filter.proofs.single_words.Statement.{statement}
 use Rattle.filter.proofs.single_words.Tie as tie

@@ -2,12 +2,12 @@
 use borrow.Author.Needs.{needs}
 use mathlib.Core.Path.{_≡_, sym, ap, subst, _∙_}
 use lib.ListN.{length}
-use Rattle.circuit.specs.declared.Verdict.{Verdict}
+use Rattle.circuit.specs.declared.verdict.Verdict.{Verdict}
 use Rattle.circuit.specs.State.{rowsOf, Good}
 use Rattle.circuit.proofs.StateLaws.{good, stray-row}
 use Rattle.filter.specs.Sweep.{sweep}
 use Rattle.filter.specs.Calls.{byHand}
-use Rattle.filter.specs.Inner.{Within}
+use Rattle.filter.specs.inner.Steps.{Within}
 use Rattle.filter.proofs.SweepLaws.{sweep-sound}
 use Rattle.filter.proofs.HandLaws.{within, hand-ended, sweep-bad, sweep-good}
 use Rattle.filter.proofs.sweep.Statement.{statement}

@@ -2,7 +2,7 @@
 use mathlib.Core.Path.{ap, _∙_}
 use lib.ListN.{length}
 use Rattle.bitset.proofs.UptoLaws.{length-upto}
-use Rattle.circuit.specs.Legs.{col}
+use Rattle.circuit.specs.Legs.{columns, col}
 use Rattle.circuit.proofs.StateLaws.{stray-row}
 use Rattle.filter.proofs.sweep_on.Statement.{statement}
 use Rattle.filter.proofs.sweep_on.Tie as tie

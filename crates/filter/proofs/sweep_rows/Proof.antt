@@ -3,7 +3,7 @@ use borrow.Author.Needs.{needs}
 use mathlib.Core.Path.{sym, ap, _∙_}
 use lib.ListN.{length}
 use Rattle.bitset.proofs.UptoLaws.{length-upto}
-use Rattle.circuit.specs.declared.Verdict.{Verdict}
+use Rattle.circuit.specs.declared.verdict.Verdict.{Verdict}
 use Rattle.circuit.specs.State.{stray}
 use Rattle.filter.proofs.SweepLaws.{sweep-sound}
 use Rattle.filter.proofs.SweptLaws.{sweptRow, swept-rows, of-columns, sweep-none, sweep-left}

@@ -6,8 +6,7 @@ use Prim.Native.Nat.{ℕ, _-_, _≤_}
 use native.Mathlib.Omega.{arith}
 use Rattle.bitset.specs.Sets.{has}
 use Rattle.bitset.proofs.UptoLaws.{Changed, changed-none, changed-here, changed-more, changed-end}
-use Rattle.circuit.specs.Legs.{row}
-use Rattle.filter.specs.Singles.{keeps}
+use Rattle.filter.specs.inner.Singles.{keeps}
 use Rattle.filter.proofs.SweptLaws.{sweptRow, swept-rows, swept-in, swept-row, swept-beyond}
 use Rattle.filter.proofs.sweep_words.Statement.{statement}
 use Rattle.filter.proofs.sweep_words.Tie as tie
@@ -43,7 +42,6 @@ loop-less : tie.Need-loop-less Inv-loop μ-loop
 loop-less c = search needs
 
 loop-again : tie.Need-loop-again Inv-loop μ-loop
-unfolding row
 loop-again c =
     let v = c .before .before .before .loop in
     let s = c .before .before .before .before in

@@ -38,8 +38,8 @@ shared-slice-read-size-3 c = search needs
 size-requires-3 : tie.Need-size-requires-3
 size-requires-3 c κs = search needs
 
-end-of-requires : tie.Need-end-of-requires
-end-of-requires c κs = search needs
+of-code-requires : tie.Need-of-code-requires
+of-code-requires c κs = search needs
 
 new-requires : tie.Need-new-requires
 new-requires c κs = search needs
@@ -51,7 +51,7 @@ returns-2 c =
     let l = q .before .before .before .before .before in
     rw (
       c .new .ensures,
-      c .before .end-of .ensures,
+      c .before .of-code .ensures,
       c .before .before .size3 .ensures,
       q .size2 .ensures,
       q .before .before .load-table .ensures,
@@ -74,6 +74,6 @@ load-spec =
     size-requires-2
     shared-slice-read-size-3
     size-requires-3
-    end-of-requires
+    of-code-requires
     new-requires
     returns-2)

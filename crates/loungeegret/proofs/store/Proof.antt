@@ -22,8 +22,8 @@ cast-state c = search needs
 slice-write-state-4 : tie.Need-slice-write-state-4
 slice-write-state-4 c = simp length-set (omega arith)
 
-end-number-requires : tie.Need-end-number-requires
-end-number-requires c κs = search needs
+code-requires : tie.Need-code-requires
+code-requires c κs = search needs
 
 slice-write-state-5 : tie.Need-slice-write-state-5
 slice-write-state-5 c = simp length-set (omega arith)
@@ -38,7 +38,7 @@ returns : tie.Need-returns
 returns c =
     let p = c .before .before in
     let s = p .before .before .before .before .before .before .before .args in
-    rw (p .store-rows .ensures, byte-digit, p .before .before .before .before .end-number .ensures) (stores (s .state .now) (s .work) (omega arith))
+    rw (p .store-rows .ensures, byte-digit, p .before .before .before .before .code .ensures) (stores (s .state .now) (s .work) (omega arith))
 
 pub store-spec : {M : Type 1} → statement M
 store-spec =
@@ -49,7 +49,7 @@ store-spec =
     slice-write-state-3
     cast-state
     slice-write-state-4
-    end-number-requires
+    code-requires
     slice-write-state-5
     store-rows-requires
     same-length

@@ -8,7 +8,7 @@ use native.Mathlib.Omega.{arith}
 use lib.ListN.{length}
 use borrow.Author.Tests.{not-true, not-false}
 use Rattle.bitset.proofs.BoolLaws.{not-both}
-use Rattle.matching.specs.Paths.{Matched}
+use Rattle.matching.specs.inner.Paths.{Matched}
 use Rattle.matching.proofs.HallLaws.{inside-less, assigns-less, exact}
 use Rattle.matching.proofs.assign.Statement.{statement}
 use Rattle.matching.proofs.assign.Tie as tie

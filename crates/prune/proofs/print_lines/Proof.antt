@@ -7,8 +7,8 @@ use Prim.Native.Nat.{ℕ, _≤_, zero-le}
 use native.Mathlib.Nat.{min-eq-left}
 use lib.ListN.{length, length-take}
 use Rattle.bitset.proofs.BoolLaws.{cond-elim}
-use Rattle.circuit.specs.declared.Work.{Work}
-use Rattle.circuit.specs.declared.Reported.{Reported}
+use Rattle.circuit.specs.declared.state.Work.{Work}
+use Rattle.report.specs.declared.Reported.{Reported}
 use Rattle.circuit.specs.State.{bad}
 use Rattle.report.specs.Lines.{short, reportCall}
 use Rattle.report.proofs.LineLaws.{report-length}

@@ -5,9 +5,9 @@ use mathlib.Core.List.{List}
 use Prim.Native.Nat.{ℕ, _+_, _-_, _*_, _≤_}
 use native.Mathlib.Omega.{arith}
 use lib.ListN.{length, length-append}
-use Rattle.circuit.specs.Legs.{row}
+use Rattle.bitset.specs.Upto.{row}
 use Rattle.report.specs.Lines.{linesFrom}
-use Rattle.report.specs.Writer.{lineTo}
+use Rattle.report.specs.inner.Writer.{lineTo}
 use Rattle.report.proofs.TextLaws.{lines-none, lines-more, lines-all}
 use Rattle.report.proofs.lines_len.Statement.{statement}
 use Rattle.report.proofs.lines_len.Tie as tie
@@ -40,7 +40,6 @@ loop-less : tie.Need-loop-less Inv-loop μ-loop
 loop-less c = search needs
 
 loop-again : tie.Need-loop-again Inv-loop μ-loop
-unfolding row
 loop-again c =
     let start = c .before .before .before in
     let n : ℕ = start .args .n in

@@ -1,7 +1,7 @@
 -- `report::put_line` meets its contract: four writers, one after another. Assumes nothing.
 use borrow.Author.Needs.{needs}
 use mathlib.Core.List.{append-assoc}
-use Rattle.report.specs.Writer.{lineTo}
+use Rattle.report.specs.inner.Writer.{lineTo}
 use Rattle.report.proofs.WriterLaws.{wrote-as, wrote-then}
 use Rattle.report.proofs.put_line.Statement.{statement}
 use Rattle.report.proofs.put_line.Tie as tie

@@ -5,9 +5,9 @@ use mathlib.Core.List.{List, _++_}
 use Prim.Native.Nat.{ℕ, _+_, _-_, _≤_}
 use native.Mathlib.Omega.{arith}
 use lib.ListN.{length}
-use Rattle.circuit.specs.Legs.{row}
+use Rattle.bitset.specs.Upto.{row}
 use Rattle.report.specs.Lines.{linesFrom}
-use Rattle.report.specs.Writer.{lineTo}
+use Rattle.report.specs.inner.Writer.{lineTo}
 use Rattle.report.proofs.TextLaws.{line-length, lines-none, lines-more, lines-all}
 use Rattle.report.proofs.WriterLaws.{Writing, writing-none, writing-room, writing-more, writing-all}
 use Rattle.report.proofs.put_lines.Statement.{statement}
@@ -55,7 +55,6 @@ array-read-put-line : tie.Need-array-read-put-line Inv-loop μ-loop
 array-read-put-line c = search needs
 
 put-line-requires : tie.Need-put-line-requires Inv-loop μ-loop
-unfolding row
 put-line-requires c κs =
     let turn = c .before in
     let h = room turn in
@@ -63,7 +62,6 @@ put-line-requires c κs =
     search needs
 
 add-at : tie.Need-add-at Inv-loop μ-loop
-unfolding row
 add-at c = omega (arith, room (c .before .before .before .before))
 
 add-i : tie.Need-add-i Inv-loop μ-loop
@@ -73,7 +71,6 @@ loop-less : tie.Need-loop-less Inv-loop μ-loop
 loop-less c = search needs
 
 loop-again : tie.Need-loop-again Inv-loop μ-loop
-unfolding row
 loop-again c =
     let turn = c .before .before .before .before in
     (omega arith, writing-more (split turn) (turn .before .loop .inv .1) (c .before .before .put-line .ensures))

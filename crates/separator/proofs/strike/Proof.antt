@@ -8,9 +8,9 @@ use native.Mathlib.Nat.{lt-of-lt-of-le}
 use lib.ListN.{length}
 use lib.Pow.{pow-mono}
 use Rattle.bitset.proofs.UptoLaws.{length-upto}
-use Rattle.circuit.specs.Legs.{col}
+use Rattle.circuit.specs.Legs.{columns, col}
 use Rattle.circuit.proofs.StateLaws.{stray-row}
-use Rattle.separator.specs.Spares.{SparesOf, Cut}
+use Rattle.separator.specs.inner.Spares.{SparesOf, Cut}
 use Rattle.separator.proofs.WidthLaws.{outside-of}
 use Rattle.separator.proofs.CutLaws.{cut-cols}
 use Rattle.separator.proofs.ExactLaws.{level-none, level-leaves}

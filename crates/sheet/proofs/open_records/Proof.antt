@@ -6,14 +6,14 @@ use Prim.Native.Nat.{ℕ, _-_, _≤_}
 use native.Mathlib.Omega.{arith}
 use lib.Bits.{bitAnd}
 use lib.ListN.{drop, length-drop}
-use Rattle.circuit.specs.declared.Answer.the-variants.{Taken}
-use Rattle.circuit.specs.declared.Opened.{Opened}
-use Rattle.circuit.specs.declared.Work.{Work}
+use Rattle.circuit.specs.declared.card.Answer.the-variants.{Taken}
+use Rattle.sheet.specs.declared.Opened.{Opened}
+use Rattle.circuit.specs.declared.state.Work.{Work}
 use Rattle.circuit.specs.State.{fresh}
 use Rattle.sheet.specs.declared.Read.{Read}
 use Rattle.sheet.specs.declared.Read.the-variants.{Whole, Fault}
 use Rattle.sheet.specs.Open.{readEntry}
-use Rattle.sheet.specs.Reader.{IsRecord}
+use Rattle.sheet.specs.inner.Reader.{IsRecord}
 use Rattle.sheet.proofs.ReaderLaws.{rest-of, record-told}
 use Rattle.sheet.proofs.RecordsLaws.{SoFar, so-far-none, so-far-more, so-far-fault, so-far-all, so-far-square, so-far-over, so-far-whole}
 use Rattle.sheet.proofs.open_records.Statement.{statement}

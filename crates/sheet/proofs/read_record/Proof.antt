@@ -11,7 +11,7 @@ use Rattle.sheet.specs.declared.Field.the-variants.{Allows}
 use Rattle.sheet.specs.declared.Stations.{Stations}
 use Rattle.sheet.specs.Layout.{allows, fixes}
 use Rattle.sheet.specs.Open.{Got, readSet, readFixed}
-use Rattle.sheet.specs.Reader.{IsField}
+use Rattle.sheet.specs.inner.Reader.{IsField}
 use Rattle.sheet.proofs.ReaderLaws.{field-told, record-cut, record-unknown, next-fault, prev-fault, fixed-fault, record-whole}
 use Rattle.sheet.proofs.read_record.Statement.{statement}
 use Rattle.sheet.proofs.read_record.Tie as tie

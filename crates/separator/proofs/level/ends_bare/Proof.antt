@@ -8,7 +8,7 @@ use Prim.Native.Nat.{_<_}
 use lib.Count.{ones, trailingZeros}
 use Rattle.bitset.specs.Sets.{has}
 use Rattle.bitset.proofs.LeastLaws.{trailing-least, ones-clear}
-use Rattle.separator.specs.Spares.{bare}
+use Rattle.separator.specs.inner.Spares.{bare}
 use Rattle.separator.proofs.EndsLaws.{Walked, walk-start, walk-turn, walk-end, markAt-pair}
 use Rattle.separator.proofs.level.ends_bare.Statement.{statement}
 use Rattle.separator.proofs.level.ends_bare.Tie as tie

@@ -3,7 +3,7 @@ use native.Mathlib.Omega.{arith}
 use mathlib.Core.Path.{_≡_}
 use Prim.Native.Nat.{_-_, _≤_}
 use Rattle.separator.specs.Level.{stands}
-use Rattle.separator.specs.Spares.{markAt, Side}
+use Rattle.separator.specs.inner.Spares.{markAt, Side}
 use Rattle.separator.proofs.SideLaws.{side-start, side-at, side-more}
 use Rattle.separator.proofs.level.marks.Statement.{statement}
 use Rattle.separator.proofs.level.marks.Tie as tie

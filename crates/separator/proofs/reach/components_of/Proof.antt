@@ -8,13 +8,14 @@ use native.Mathlib.Omega.{arith}
 use lib.Bits.{bitAnd, and-le-l}
 use lib.Count.{ones, ones-le, trailingZeros}
 use lib.ListN.{length, replicate, length-set}
-use Rattle.bitset.specs.Sets.{Least, has}
+use Rattle.bitset.specs.inner.Members.{Least}
+use Rattle.bitset.specs.Sets.{has}
 use Rattle.bitset.proofs.SetLaws.{setOf-lt}
 use Rattle.bitset.proofs.OnesLaws.{ones-pos}
 use Rattle.bitset.proofs.LeastLaws.{trailing-least}
 use Rattle.circuit.specs.Legs.{neighbours}
 use Rattle.separator.specs.Components.{componentsFrom, components}
-use Rattle.separator.specs.Linked.{Linked}
+use Rattle.separator.specs.inner.Linked.{Linked}
 use Rattle.separator.proofs.WidthLaws.{member-below}
 use Rattle.separator.proofs.PartLaws.{ones-less, Listing, listing-start, listing-turn, listing-end}
 use Rattle.separator.proofs.reach.components_of.Statement.{statement}

@@ -13,7 +13,7 @@ use lib.Pow.{pow-lt}
 use Rattle.bitset.proofs.OnesLaws.{ones-pos}
 use Rattle.bitset.proofs.MachineLaws.{shl-one}
 use Rattle.separator.specs.Levels.{neighbourhood}
-use Rattle.separator.specs.Linked.{Linked}
+use Rattle.separator.specs.inner.Linked.{Linked}
 use Rattle.separator.proofs.WidthLaws.{minus-of, neighbourhood-lt, ones-join}
 use Rattle.separator.proofs.LevelsLaws.{Found, found-start, found-turn, found-end}
 use Rattle.separator.proofs.reach.levels_from.Statement.{statement}

@@ -4,7 +4,6 @@ use mathlib.Core.Path.{ap, _∙_}
 use Prim.Native.Nat.{ℕ}
 use Rattle.bitset.specs.Sets.{has}
 use Rattle.bitset.proofs.SetLaws.{has-setOf}
-use Rattle.circuit.specs.Legs.{row}
 use Rattle.separator.proofs.WidthLaws.{hit, neighbourhood-of}
 use Rattle.separator.proofs.reach.neighbourhood.Statement.{statement}
 use Rattle.separator.proofs.reach.neighbourhood.Tie as tie
@@ -13,7 +12,6 @@ union-of-rows-requires : tie.Need-union-of-rows-requires
 union-of-rows-requires c κs = search needs
 
 returns : tie.Need-returns
-unfolding row
 returns c =
     let a = c .before .args in
     let u = c .union-of-rows in

@@ -9,7 +9,7 @@ use lib.Bits.{bitOr}
 use lib.ListN.{getD, length-replicate}
 use Rattle.bitset.specs.Sets.{setOf}
 use Rattle.bitset.proofs.UptoLaws.{Filled, filled-none, filled-more, getD-upto}
-use Rattle.circuit.specs.Legs.{row, col, neighbours}
+use Rattle.circuit.specs.Legs.{col, neighbours}
 use Rattle.separator.proofs.WidthLaws.{neighbours-of}
 use Rattle.separator.proofs.ArrayLaws.{filled-at}
 use Rattle.separator.proofs.reach.neighbours.Statement.{statement}
@@ -53,7 +53,6 @@ loop-less : tie.Need-loop-less Inv-loop μ-loop
 loop-less c = omega arith
 
 loop-again : tie.Need-loop-again Inv-loop μ-loop
-unfolding row
 loop-again c =
     let l = c .before .before .before .loop in
     let a = c .before .before .before .before .args in
@@ -68,7 +67,6 @@ loop-again c =
     )
 
 returns : tie.Need-returns Inv-loop μ-loop
-unfolding row
 returns c =
     let l = c .before .loop in
     record { most = c .before .before .pre .0; words = λ i d. filled-at 0 (l .inv .1) i (omega arith) }

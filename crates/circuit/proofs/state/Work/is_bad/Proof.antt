@@ -1,0 +1,35 @@
+-- `circuit::Work::is_bad` meets its contract.
+use borrow.Author.Needs.{needs}
+use mathlib.Core.Path.{sym, _∙_}
+use Rattle.circuit.specs.State.{bad}
+use Rattle.circuit.proofs.StateLaws.{inside}
+use Rattle.circuit.proofs.state.Work.is_bad.Statement.{statement}
+use Rattle.circuit.proofs.state.Work.is_bad.Tie as tie
+
+outside-requires : tie.Need-outside-requires
+outside-requires c κs = search needs
+
+returns : tie.Need-returns
+unfolding bad
+returns c = rw (sym (c .before .outside .ensures) ∙ c .if1 .taken)
+
+stray-requires : tie.Need-stray-requires
+stray-requires c κs =
+    let l = c .before .before .before in
+    inside 2 64 _ (sym (l .before .outside .ensures) ∙ l .if1 .left) .1
+
+outside-requires-2 : tie.Need-outside-requires-2
+outside-requires-2 c κs = search needs
+
+last-place-requires : tie.Need-last-place-requires
+last-place-requires c κs = search needs
+
+returns-2 : tie.Need-returns-2
+unfolding bad
+returns-2 c =
+    let l = c .before .before .before .before .before .before .before in
+    rw (sym (l .before .outside .ensures) ∙ l .if1 .left, c .before .before .before .stray .ensures, c .before .before .outside2 .ensures, c .before .last-place .ensures)
+
+pub is-bad-spec : {M : Type 1} → statement M
+is-bad-spec =
+    tie.close (tie.spec outside-requires returns stray-requires outside-requires-2 last-place-requires returns-2)

@@ -1,0 +1,3 @@
+-- What the functions promise each other.
+pub mod Tables
+pub mod Lists

@@ -1,0 +1,34 @@
+-- What the functions on tables promise each other.
+use mathlib.Core.Path.{_≡_}
+use mathlib.Core.Bool.{false, not, cond}
+use mathlib.Core.List.{List}
+use Prim.Native.Nat.{ℕ, _^_, _<_}
+use lib.Bits.{bitOr}
+use lib.Dec.{eqb, ltb}
+use lib.ListN.{length}
+use Rattle.bitset.specs.Sets.{has, setOf}
+use Rattle.bitset.specs.Upto.{row}
+use Rattle.circuit.specs.Legs.{leg, columns, tableOf}
+use Rattle.circuit.specs.State.{stray}
+
+-- the first n words are sets of numbers below n
+abbrev pub Square : ℕ → List ℕ → Type 0
+Square n t = (i : ℕ) → i < n → row t i < 2 ^ n
+
+-- the rows of a table without stray legs, and its columns
+pub record Columned (n : ℕ) (rows cols : List ℕ) : Type 0 where
+  pub clean : stray n rows ≡ false
+  pub len : length rows ≡ 64
+  pub columns : cols ≡ columns n rows
+
+-- row i of the full table
+unfoldable pub fullRow : ℕ → ℕ → ℕ
+fullRow n i = cond (ltb i n) (setOf n (λ j. not (eqb i j))) 0
+
+-- the legs between stations below n that do not stand
+unfoldable pub gaps : ℕ → List ℕ → List ℕ
+gaps n t = tableOf n (λ i j. not (leg t i j))
+
+-- column j with station i added, where i's row has j
+unfoldable pub added : ℕ → ℕ → List ℕ → ℕ → ℕ
+added i legs cols j = cond (has legs j) (bitOr (row cols j) (2 ^ i)) (row cols j)

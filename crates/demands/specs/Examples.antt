@@ -1,0 +1,124 @@
+-- Rounds from the depot wall: the items with ◆, as one list.
+use mathlib.Core.Bool.{Bool, true, false, _&&_, _||_, Bool·beq}
+use mathlib.Core.List.{List, [], _∷_}
+use Prim.Native.Nat.{ℕ, suc}
+use Prim.Native.String.{String}
+use lib.Dec.{eqb}
+use lib.ListN.{length}
+use Rattle.bitset.specs.Sets.{all}
+use Rattle.circuit.specs.declared.state.Work.{Work}
+use Rattle.filter.specs.declared.Called.{Called}
+use Rattle.circuit.specs.declared.card.Answer.{Answer}
+use Rattle.circuit.specs.Card.{number, isWord}
+use Rattle.bitset.specs.Upto.{row}
+use Rattle.circuit.specs.Legs.{tableOf, without, legs}
+use Rattle.circuit.specs.State.{isNone, rowsOf, fresh}
+use Rattle.circuit.specs.Check.{checkCall}
+use Rattle.sheet.specs.Open.{openCall}
+use Rattle.filter.specs.Calls.{sweepCall, passCall, runCall}
+
+-- a leg as the paper writes it: stations from 1
+pub data Leg : Type 0 where
+  leg : ℕ → ℕ → Leg
+
+-- where an example starts: a sheet opened with a limit; or n stations with the given legs, and limit 64
+pub data Start : Type 0 where
+  sheet : List ℕ → ℕ → Start
+  table : ℕ → List Leg → Start
+
+-- an item
+pub data Example : Type 0 where
+  -- so many legs stand
+  counts : Start → ℕ → Example
+  -- one sweep removes exactly these legs
+  sweeps : Start → List Leg → Example
+  -- the pass with the seed removes exactly these legs, and gives none or not
+  passes : Start → ℕ → List Leg → Bool → Example
+  -- the run takes so many steps, and its end has the word
+  runs : Start → ℕ → String → Example
+  -- the list is a round of the table, or not
+  lists : Start → List ℕ → Bool → Example
+  -- the sheet is refused with the number, at the place
+  refuses : List ℕ → ℕ → ℕ → Example
+
+-- ---- what an example says
+
+-- the leg i→j is in the list
+unfoldable pub listed : List Leg → ℕ → ℕ → Bool
+listed [] i j = false
+listed (leg a b ∷ ls) i j = let r = listed ls i j in eqb a (suc i) && eqb b (suc j) || r
+
+-- the state that an example starts from
+unfoldable pub begun : Start → Work
+begun (sheet s limit) = openCall s limit .work
+begun (table n ls) = fresh n (tableOf n (listed ls)) 64
+
+-- the answer has this number
+abbrev pub isNumber : ℕ → Answer → Bool
+isNumber k a = eqb (number a) k
+
+-- the call on w was taken, removed exactly these legs, and gave none or not
+unfoldable pub removes : Work → Called → List Leg → Bool → Bool
+removes w r ls none =
+    isNumber 0 (r .answer) && eqb (r .removed) (length ls) && Bool·beq (isNone (r .work .end)) none
+    && all 64 (λ i. eqb (row (rowsOf (r .work)) i) (row (without (w .n) (rowsOf w) (listed ls)) i))
+
+-- the program's budget
+unfoldable pub budget : ℕ
+budget = 300000
+
+-- the item holds
+unfoldable pub holds : Example → Bool
+holds (counts s k) = let w = begun s in eqb (legs (w .n) (rowsOf w)) k
+holds (sweeps s ls) = let w = begun s in removes w (sweepCall w) ls false
+holds (passes s seed ls none) = let w = begun s in removes w (passCall w seed) ls none
+holds (runs s steps end) = let r = runCall (begun s) budget in isNumber 0 (r .answer) && eqb (r .steps) steps && isWord end (r .work .end)
+holds (lists s numbers round) = let r = checkCall (begun s) numbers in isNumber 0 (r .answer) && Bool·beq (r .yes) round
+holds (refuses s k at) = let r = openCall s 64 in isNumber k (r .answer) && eqb (r .at) at
+
+-- each item of the list holds
+unfoldable pub every : List Example → Bool
+every [] = true
+every (e ∷ es) = holds e && every es
+
+-- ---- the list
+
+-- the sheet of nine legs
+unfoldable pub nineLegs : List ℕ
+nineLegs = 6 ∷ 1 ∷ 14 ∷ 0 ∷ 0 ∷ 0 ∷ 0 ∷ 0 ∷ 0 ∷ 0 ∷ 1 ∷ 17 ∷ 0 ∷ 0 ∷ 0 ∷ 0 ∷ 0 ∷ 0 ∷ 0 ∷ 4 ∷ 6 ∷ 4 ∷ 2 ∷ 4 ∷ 3 ∷ 4 ∷ 1 ∷ []
+
+-- ring 1→2→3→4→1
+unfoldable pub ringOfFour : Start
+ringOfFour = table 4 (leg 1 2 ∷ leg 2 3 ∷ leg 3 4 ∷ leg 4 1 ∷ [])
+
+-- ring of five
+unfoldable pub ringOfFive : Start
+ringOfFive = table 5 (leg 1 2 ∷ leg 2 3 ∷ leg 3 4 ∷ leg 4 5 ∷ leg 5 1 ∷ [])
+
+-- butterfly, both ways 1–2, 1–3, 2–3, 3–4, 3–5, 4–5
+unfoldable pub butterfly : Start
+butterfly =
+    table 5 (leg 1 2 ∷ leg 2 1 ∷ leg 1 3 ∷ leg 3 1 ∷ leg 2 3 ∷ leg 3 2 ∷ leg 3 4 ∷ leg 4 3 ∷ leg 3 5 ∷ leg 5 3 ∷ leg 4 5 ∷ leg 5 4 ∷ [])
+
+-- all legs of four
+unfoldable pub fullOfFour : Start
+fullOfFour = sheet (4 ∷ 0 ∷ 0 ∷ 0 ∷ 0 ∷ []) 64
+
+-- the items with ◆
+unfoldable pub examples : List Example
+examples =
+    sweeps (sheet nineLegs 64) (leg 1 2 ∷ leg 1 3 ∷ leg 2 1 ∷ [])
+    ∷ passes (sheet nineLegs 64) 4 (leg 1 2 ∷ leg 2 1 ∷ []) false
+    ∷ passes (sheet nineLegs 1) 4 [] false
+    ∷ counts (sheet (3 ∷ 0 ∷ 0 ∷ 0 ∷ []) 64) 6
+    ∷ runs (sheet (3 ∷ 0 ∷ 0 ∷ 0 ∷ []) 64) 4 "stable"
+    ∷ runs (sheet (2 ∷ 0 ∷ 0 ∷ []) 64) 3 "stable"
+    ∷ runs (sheet (2 ∷ 4 ∷ 1 ∷ 0 ∷ []) 64) 1 "none"
+    ∷ passes ringOfFour 1 [] false
+    ∷ passes ringOfFive 1 [] false
+    ∷ passes butterfly 1 [] true
+    ∷ runs butterfly 2 "none"
+    ∷ lists fullOfFour (2 ∷ 3 ∷ 4 ∷ 1 ∷ []) true
+    ∷ lists fullOfFour (2 ∷ 1 ∷ 4 ∷ 3 ∷ []) false
+    ∷ refuses (3 ∷ 12 ∷ []) 3 1
+    ∷ []

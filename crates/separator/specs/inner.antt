@@ -1,0 +1,4 @@
+-- What the functions promise each other.
+pub mod Linked
+pub mod Spares
+pub mod Strike
