@@ -12,13 +12,14 @@ use std::panic::{catch_unwind, AssertUnwindSafe};
 
 use self::call::{Answer, Call};
 use self::difference::Step;
-use self::made::{Known, Made};
+use self::made::Known;
 use self::watch::Watch;
 use crate::calls::{Calls, Fast, Plain};
 use crate::gen::Xorshift;
 use crate::state::{End, WorkState};
 
 pub use self::difference::Difference;
+pub use self::made::Made;
 
 type Found<T> = Result<T, Box<Difference>>;
 
