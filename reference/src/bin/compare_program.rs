@@ -204,11 +204,10 @@ fn differences(command: &[String], cases: &[Case]) -> Vec<String> {
 /// Plain runs on many stations take long, so only one in eight is made; the
 /// others are those of the fast calls.
 fn expected(at: usize, input: &[u8]) -> String {
-    let small = input.first().map_or(true, |&stations| stations <= 32);
-    if small || at % 8 == 0 {
-        program::output(&Plain, input)
-    } else {
-        program::output(&Fast, input)
+    let stations = input.first().copied().unwrap_or(0);
+    match (stations, at % 8) {
+        (0..=32, _) | (_, 0) => program::output(&Plain, input),
+        _ => program::output(&Fast, input),
     }
 }
 

@@ -21,9 +21,7 @@ fn the_fast_program_differs_nowhere() {
 }
 
 /// Shell commands with that program, each with a fault.
-const FAULTS: [&str; 6] = [
-    // What comes in one read is taken for all.
-    "dd bs=1154 count=1 2>/dev/null | $PROGRAM fast",
+const FAULTS: [&str; 5] = [
     // Too few bytes are read to see the byte after the longest sheet.
     "head -c 1153 | $PROGRAM fast",
     "$PROGRAM fast | sed s/stable/open/",
@@ -40,6 +38,15 @@ fn each_fault_of_a_program_is_found() {
         assert_eq!(compared.status.code(), Some(1), "{fault}");
         assert!(text.contains("expected: ") && !text.contains("; 0 differences"));
     }
+}
+
+/// What comes by one read is taken for all. Where the machine is busy all pieces
+/// may be there by then, so there is more than one try.
+#[test]
+fn a_program_that_reads_once_is_found() {
+    let once = "dd bs=1154 count=1 2>/dev/null | $PROGRAM fast";
+    let is_found = |_| compare(&["sh", "-c", once]).status.code() == Some(1);
+    assert!((0..10).any(is_found));
 }
 
 #[test]
