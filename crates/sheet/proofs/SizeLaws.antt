@@ -20,7 +20,7 @@ use Rattle.circuit.specs.declared.Opened.{Opened}
 use Rattle.circuit.proofs.StateLaws.{inside}
 use Rattle.sheet.specs.Layout.{Entry, Page, bytes, entryBytes, entriesBytes, bytesOf, Each, EntryFits, WellFormed}
 use Rattle.sheet.specs.Open.{Got, got, fault, _then_, little, readSet, readFixed, readEntry, readEntries, readEnd, readPage, refused, opened, openCall}
-use Rattle.sheet.specs.Sizes.{sheetMost, Longest}
+use Rattle.sheet.specs.Sizes.{sheetMost, LongestSheet}
 use Rattle.sheet.proofs.ReadLaws.{length-bytes, fields}
 use Rattle.sheet.proofs.TakenLaws.{Says, taken}
 use Rattle.sheet.proofs.GrammarLaws.{sheet-taken}
@@ -183,7 +183,7 @@ unfolding bytesOf
 longest-size = omega (arith, whole-size 64)
 
 -- A taken sheet has at most 1,153 bytes, and a page of 64 stations whose records have all their fields has as many.
-pub sheet-most : Longest sheetMost
+pub sheet-most : LongestSheet sheetMost
 sheet-most =
     record {
       most = taken-length;

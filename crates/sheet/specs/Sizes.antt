@@ -12,7 +12,7 @@ abbrev pub sheetMost : ℕ
 sheetMost = 1153
 
 -- no sheet of more than m bytes is taken, and under each good limit one of m bytes is
-pub record Longest (m : ℕ) : Type 0 where
+pub record LongestSheet (m : ℕ) : Type 0 where
   pub most : (s : List ℕ) (limit : ℕ) → openCall s limit .answer ≡ card 0 → length s ≤ m
   pub page : Page
   pub well : WellFormed page
