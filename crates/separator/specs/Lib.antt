@@ -2,6 +2,7 @@
 pub mod Choice
 pub mod Levels
 pub mod Components
+pub mod Connected
 pub mod Linked
 pub mod Level
 pub mod Spares
