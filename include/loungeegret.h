@@ -70,7 +70,7 @@ enum {
  * offending byte for 2, 3 and 5, the field's first byte for 4, otherwise 0.
  *
  * Which limit: a pass skips the separators that have more stations than the limit. 64 skips none, filters most and is the
- * program's; a smaller limit is cheaper and strikes less. A struck leg is one that no round can drive under any limit.
+ * program's; a smaller limit is cheaper and strikes less. Under every limit only legs that no round can drive are struck.
  */
 uint32_t loungeegret_open(const uint8_t *sheet, size_t sheet_length, size_t limit,
                           uint64_t *state, size_t state_length, size_t *place);
