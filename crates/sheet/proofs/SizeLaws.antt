@@ -16,7 +16,7 @@ use Rattle.bitset.proofs.BoolLaws.{cond-elim}
 use Rattle.circuit.specs.Card.{card}
 use Rattle.circuit.specs.State.{blank}
 use Rattle.circuit.specs.declared.state.Work.{Work}
-use Rattle.circuit.specs.declared.Opened.{Opened}
+use Rattle.sheet.specs.declared.Opened.{Opened}
 use Rattle.circuit.proofs.StateLaws.{inside}
 use Rattle.sheet.specs.Layout.{Entry, Page, bytes, entryBytes, entriesBytes, bytesOf, Each, EntryFits, WellFormed}
 use Rattle.sheet.specs.Open.{Got, got, fault, _then_, little, readSet, readFixed, readEntry, readEntries, readEnd, readPage, refused, opened, openCall}
