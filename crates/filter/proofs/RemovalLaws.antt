@@ -18,7 +18,7 @@ use Rattle.filter.specs.Calls.{verdict, gone, halted, advanced, cycled, 
 use Rattle.filter.specs.Leads.{All}
 use Rattle.filter.proofs.CallLaws.{place-sound, step-leads}
 
-left-le : (w : Work) (v : Verdict) → Subtable (v .left) (rowsOf w) → gone w v + legs (w .n) (v .left) ≡ legs (w .n) (rowsOf w)
+pub left-le : (w : Work) (v : Verdict) → Subtable (v .left) (rowsOf w) → gone w v + legs (w .n) (v .left) ≡ legs (w .n) (rowsOf w)
 unfolding gone
 left-le w v sub = omega (arith, legs-le (w .n) (v .left) (rowsOf w) sub)
 

@@ -2,6 +2,7 @@
 use mathlib.Core.Path.{_≡_}
 use mathlib.Core.Logic.{_⊎_}
 use Prim.Native.Nat.{ℕ}
+use lib.ListN.{length}
 use Rattle.circuit.specs.declared.state.Work.{Work}
 use Rattle.circuit.specs.Card.{ending}
 use Rattle.circuit.specs.Legs.{Subtable}
@@ -18,6 +19,8 @@ pub record Leads (P : (ℕ → ℕ) → Type 0) (v w : Work) : Type 0 where
   -- n and the limit stay
   pub stations : w .n ≡ v .n
   pub limit : w .limit ≡ v .limit
+  -- a table of 64 words stays one
+  pub long : length (rowsOf v) ≡ 64 → length (rowsOf w) ≡ 64
   -- legs are only removed
   pub sub : Subtable (rowsOf w) (rowsOf v)
   -- each round of the class is kept

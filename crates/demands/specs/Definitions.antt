@@ -1,4 +1,4 @@
--- `unfolding rules` opens every definition of the rules: for theorems that antt computes.
+-- Every definition of the rules: `unfolding definitions` opens them all, for theorems that antt computes.
 use Prim.Native.Nat.{ℕ}
 use Rattle.bitset.specs.Sets.{bit, digit, any, all, first, count, sum, has, setOf, size, join, minus, meet}
 use Rattle.bitset.specs.Upto.{upto}
@@ -12,8 +12,9 @@ use Rattle.separator.specs.Levels.{neighbourhood, levelsFrom, levels, front, in
 use Rattle.separator.specs.Components.{spread, grow, componentsFrom, components}
 use Rattle.separator.specs.Level.{stands, markingBy, marking, marked, choose, choice, takes, passable, struck, levelBy, level}
 use Rattle.filter.specs.Pass.{passOver, pass}
-use Rattle.filter.specs.Calls.{gone, byHand, sweepCall, passCall, atPlace, after, step, runFrom, runCall}
+use Rattle.filter.specs.Rule.{says}
+use Rattle.filter.specs.Calls.{gone, byHand, handCall, after, step, runFrom, runCall}
 
-unfoldable pub rules : ℕ
-unfolding bit digit any all first count sum has setOf size join minus meet upto leg col tableOf without legs neighbours strayRow stray bad isRound isList checkCall entryAt given little readSet readFixed readEntry readEntries readEnd readPage opened openCall stuck nextTaken prevTaken swept sweep neighbourhood levelsFrom levels front inner spread grow componentsFrom components stands markingBy marking marked choose choice takes passable struck levelBy level passOver pass gone byHand sweepCall passCall atPlace after step runFrom runCall
-rules = 0
+unfoldable pub definitions : ℕ
+unfolding bit digit any all first count sum has setOf size join minus meet upto leg col tableOf without legs neighbours strayRow stray bad isRound isList checkCall entryAt given little readSet readFixed readEntry readEntries readEnd readPage opened openCall stuck nextTaken prevTaken swept sweep neighbourhood levelsFrom levels front inner spread grow componentsFrom components stands markingBy marking marked choose choice takes passable struck levelBy level passOver pass says gone byHand handCall after step runFrom runCall
+definitions = 0
