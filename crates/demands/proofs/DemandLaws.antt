@@ -8,7 +8,7 @@ use Rattle.sheet.specs.declared.Opened.{Opened}
 use Rattle.circuit.specs.Legs.{leg}
 use Rattle.circuit.specs.State.{rowsOf}
 use Rattle.sheet.specs.Open.{openCall}
-use Rattle.sheet.proofs.TakenLaws.{taken}
+use Rattle.sheet.proofs.GrammarLaws.{taken-sheet}
 use Rattle.filter.specs.Leads.{Leads}
 use Rattle.demands.specs.Sequence.{Call, sweeping, passing, running, handed, afterAll, Kept, Demand3}
 use Rattle.filter.proofs.CallLaws.{stay, leads-on, open-none, sweepCall-leads, passCall-leads, runCall-leads}
@@ -41,4 +41,4 @@ kept w o cs =
     }
 
 pub demand3 : Demand3
-demand3 = record { list = λ sheet limit t cs. kept (openCall sheet limit .work) (ap (λ (r : Opened). r .work .end) (taken sheet limit t .opened)) cs; budgets = budgets }
+demand3 = record { list = λ sheet limit t cs. kept (openCall sheet limit .work) (ap (λ (r : Opened). r .work .end) (taken-sheet sheet limit t .opened)) cs; budgets = budgets }
