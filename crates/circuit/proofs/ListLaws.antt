@@ -12,10 +12,10 @@ use Rattle.bitset.proofs.BoolLaws.{cases, is-false, not-both, and-intro, and-l,
 use Rattle.bitset.proofs.QuantLaws.{all-intro, all-elim}
 use Rattle.bitset.specs.Upto.{row}
 use Rattle.circuit.specs.Legs.{leg}
-use Rattle.circuit.specs.Check.{isList, choiceOf}
-use Rattle.circuit.specs.inner.Lists.{goodEntry, goodEntries, Numbers, Returns, Decides}
+use Rattle.circuit.specs.Check.{choiceOf, Numbers, ListsRound, isList}
+use Rattle.circuit.specs.inner.Lists.{goodEntry, goodEntries, Returns, Decides}
 use Rattle.circuit.proofs.Return.{returning-round, round-returns}
-use Rattle.circuit.proofs.CheckLaws.{ListsRound, numbers-intro, numbers-elim, isList-elim, isList-intro}
+use Rattle.circuit.proofs.CheckLaws.{numbers-intro, numbers-elim, isList-elim, isList-intro}
 
 module _ (n : ℕ) (t s : List ℕ) (len : length s ≡ n) where
   entry : ℕ → Bool

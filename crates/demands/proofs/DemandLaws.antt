@@ -10,7 +10,6 @@ use Rattle.circuit.specs.State.{rowsOf}
 use Rattle.circuit.proofs.CheckLaws.{list-round, round-list}
 use Rattle.sheet.specs.declared.Opened.{Opened}
 use Rattle.sheet.specs.Open.{openCall}
-use Rattle.sheet.proofs.TakenLaws.{taken}
 use Rattle.sheet.proofs.GrammarLaws.{sheet-taken, taken-sheet, unknown-bit-refused}
 use Rattle.filter.specs.Leads.{All, Leads}
 use Rattle.filter.proofs.CallLaws.{stay, leads-on, open-none, handCall-leads, runCall-leads}
@@ -80,7 +79,7 @@ demand2 =
 pub demand3 : Demand3
 demand3 =
     record {
-      list = λ sheet limit t cs. kept (openCall sheet limit .work) (ap (λ (r : Opened). r .work .end) (taken sheet limit t .opened)) cs;
+      list = λ sheet limit t cs. kept (openCall sheet limit .work) (ap (λ (r : Opened). r .work .end) (taken-sheet sheet limit t .opened)) cs;
       budgets = budgets;
       refused = run-bad;
     }

@@ -11,8 +11,8 @@ use Rattle.circuit.specs.Legs.{leg, legs, Subtable}
 use Rattle.circuit.specs.Round.{RoundOf, Drivable}
 use Rattle.circuit.specs.State.{rowsOf, blank, bad, Good}
 use Rattle.circuit.specs.Check.{checkCall, ListsRound}
-use Rattle.sheet.specs.Layout.{Entry, Page, entriesBytes, bytesOf, Bytes, Each, EntryFits, WellFormed}
-use Rattle.sheet.specs.Open.{refused, openedPage, openCall}
+use Rattle.sheet.specs.Layout.{Entry, Page, entriesBytes, bytesOf, Each, EntryFits, WellFormed}
+use Rattle.sheet.specs.Open.{refused, openedPage, openCall, TakenSheet}
 use Rattle.report.specs.Lines.{reportCall, reportBytes}
 use Rattle.filter.specs.declared.rule.Rule.{Rule}
 use Rattle.filter.specs.Calls.{unchanged, handCall, idle, runCall}
@@ -27,9 +27,8 @@ Refusal a = a ≡ card 0 → ⊥
 pub record Demand1 : Type 0 where
   -- the bytes of a well-formed page are taken with a good limit, and the table has exactly the legs of the leg rule
   pub sheets : (p : Page) (limit : ℕ) → WellFormed p → 1 ≤ limit → limit ≤ 64 → openCall (bytesOf p) limit ≡ openedPage p limit
-  -- bytes that are taken are those of a well-formed page, with a good limit
-  pub no-others : (s : List ℕ) (limit : ℕ) → Bytes s → openCall s limit .answer ≡ card 0
-      → (p : Page) × WellFormed p × (s ≡ bytesOf p) × (1 ≤ limit) × (limit ≤ 64) × (openCall s limit ≡ openedPage p limit)
+  -- what is taken is the bytes of a well-formed page, with a good limit, and gives that page
+  pub no-others : (s : List ℕ) (limit : ℕ) → openCall s limit .answer ≡ card 0 → TakenSheet s limit
   -- an unknown bit after well-formed records is refused with 3 at its byte, whatever follows
   pub unknown : (n : ℕ) (es : List Entry) (m : ℕ) (rest : List ℕ) (limit : ℕ)
       → 2 ≤ n → n ≤ 64 → length es < n → Each (EntryFits n) es → 8 ≤ m → 1 ≤ limit → limit ≤ 64

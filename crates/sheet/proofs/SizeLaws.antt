@@ -7,7 +7,7 @@ use Prim.Native.Nat.{ℕ, zero, suc, _+_, _-_, _*_, _^_, _≤_, _<_}
 use native.Mathlib.Decide.{decLe}
 use native.Mathlib.Nat.{not-suc-le-zero, le-of-suc-le-suc}
 use native.Mathlib.Omega.{arith}
-use lib.Dec.{leb, ltb}
+use lib.Dec.{leb}
 use lib.ListN.{length, take, drop, replicate, length-append, length-drop, length-replicate, take-append-drop}
 use lib.Seq.{take-all, length-take-le, drop-append-le}
 use borrow.Author.Tests.{le-ltb}
@@ -19,11 +19,10 @@ use Rattle.circuit.specs.declared.state.Work.{Work}
 use Rattle.sheet.specs.declared.Opened.{Opened}
 use Rattle.circuit.proofs.StateLaws.{inside}
 use Rattle.sheet.specs.Layout.{Entry, Page, bytes, entryBytes, entriesBytes, bytesOf, Each, EntryFits, WellFormed}
-use Rattle.sheet.specs.Open.{Got, got, fault, _then_, little, readSet, readFixed, readEntry, readEntries, readEnd, readPage, refused, opened, openCall}
+use Rattle.sheet.specs.Open.{Got, got, fault, _then_, little, readSet, readFixed, readFields, readEntry, readEntries, readEnd, readRest, readPage, refused, opened, openCall, TakenSheet}
 use Rattle.sheet.specs.Sizes.{sheetMost, LongestSheet}
-use Rattle.sheet.proofs.ReadLaws.{length-bytes, fields}
-use Rattle.sheet.proofs.TakenLaws.{Says, taken}
-use Rattle.sheet.proofs.GrammarLaws.{sheet-taken}
+use Rattle.sheet.proofs.ReadLaws.{length-bytes}
+use Rattle.sheet.proofs.GrammarLaws.{sheet-taken, taken-sheet}
 
 -- ---- bytes that follow change nothing but the rest
 
@@ -62,8 +61,8 @@ module _ (t : List ℕ) where
       let there : 8 ≤ length (s ++ t) = omega (arith, length-append s t) in
       let left : m ≤ length (drop 8 s) = omega (arith, length-drop 8 s) in
       rw (le-ltb (length s) 8 here, le-ltb (length (s ++ t)) 8 there, little-before 8 s here, drop-append-le 8 s t here)
-      (before-cond (Left m) (ltb (little 8 s) (2 ^ n)) (got (some (little 8 s)) (drop 8 s)) (fault (card 4) s) (got (some (little 8 s)) (drop 8 s ++ t)) (fault (card 4) (s ++ t))
-      (λ _. (refl, left)) (λ _. refl))
+      (before-cond (Left m) (leb (2 ^ n) (little 8 s)) (fault (card 4) s) (got (some (little 8 s)) (drop 8 s)) (fault (card 4) (s ++ t)) (got (some (little 8 s)) (drop 8 s ++ t))
+      (λ _. refl) (λ _. (refl, left)))
 
   fixed-before : (n m : ℕ) (b : Bool) (s : List ℕ) → 1 + m ≤ length s → Before t (Left m) (readFixed n b s) (readFixed n b (s ++ t))
   unfolding readFixed
@@ -73,18 +72,17 @@ module _ (t : List ℕ) where
       let left : m ≤ length s = omega arith in
       before-cond (Left m) (outside 1 n v) (fault (card 4) (v ∷ s)) (got (some v) s) (fault (card 4) (v ∷ s ++ t)) (got (some v) (s ++ t)) (λ _. refl) (λ _. (refl, left))
 
-  fields-before : (n m : ℕ) (a b c : Bool) (s : List ℕ) → 17 + m ≤ length s → Before t (Left m) (fields n a b c s) (fields n a b c (s ++ t))
-  fields-before n m a b c s l =
-      before-then (Left (9 + m)) (Left m) (readSet n a s) (readSet n a (s ++ t)) _ (set-before n (9 + m) a s (omega arith)) (λ next s₁ l₁.
-      before-then (Left (1 + m)) (Left m) (readSet n b s₁) (readSet n b (s₁ ++ t)) _ (set-before n (1 + m) b s₁ (omega arith)) (λ prev s₂ l₂.
-      before-then (Left m) (Left m) (readFixed n c s₂) (readFixed n c (s₂ ++ t)) _ (fixed-before n m c s₂ l₂) (λ fixed s₃ l₃. (refl, l₃))))
+  fields-before : (n m b : ℕ) (s : List ℕ) → 17 + m ≤ length s → Before t (Left m) (readFields n b s) (readFields n b (s ++ t))
+  fields-before n m b s l =
+      before-then (Left (9 + m)) (Left m) (readSet n (has b 0) s) (readSet n (has b 0) (s ++ t)) _ (set-before n (9 + m) (has b 0) s (omega arith)) (λ next s₁ l₁.
+      before-then (Left (1 + m)) (Left m) (readSet n (has b 1) s₁) (readSet n (has b 1) (s₁ ++ t)) _ (set-before n (1 + m) (has b 1) s₁ (omega arith)) (λ prev s₂ l₂.
+      before-then (Left m) (Left m) (readFixed n (has b 2) s₂) (readFixed n (has b 2) (s₂ ++ t)) _ (fixed-before n m (has b 2) s₂ l₂) (λ fixed s₃ l₃. (refl, l₃))))
 
   entry-before : (n m : ℕ) (s : List ℕ) → 18 + m ≤ length s → Before t (Left m) (readEntry n s) (readEntry n (s ++ t))
   unfolding readEntry
   entry-before n m [] l = absurd (let z : ⊥ = omega arith in z)
   entry-before n m (b ∷ s) l =
-      before-cond (Left m) (leb 8 b) (fault (card 3) (b ∷ s)) (fields n (has b 0) (has b 1) (has b 2) s) (fault (card 3) (b ∷ s ++ t)) (fields n (has b 0) (has b 1) (has b 2) (s ++ t))
-      (λ _. refl) (λ _. fields-before n m (has b 0) (has b 1) (has b 2) s (omega arith))
+      before-cond (Left m) (leb 8 b) (fault (card 3) (b ∷ s)) (readFields n b s) (fault (card 3) (b ∷ s ++ t)) (readFields n b (s ++ t)) (λ _. refl) (λ _. fields-before n m b s (omega arith))
 
   entries-before : (k n m : ℕ) (s : List ℕ) → 18 * k + m ≤ length s → Before t (Left m) (readEntries k n s) (readEntries k n (s ++ t))
   unfolding readEntries
@@ -103,12 +101,9 @@ module _ (t : List ℕ) where
   unfolding readPage
   page-before [] l = absurd (not-suc-le-zero l)
   page-before (n ∷ s) l =
-      before-cond (λ _. ⊥) (outside 2 64 n) (fault (card 2) (n ∷ s)) (readRest s) (fault (card 2) (n ∷ s ++ t)) (readRest (s ++ t)) (λ _. refl) (λ e.
+      before-cond (λ _. ⊥) (outside 2 64 n) (fault (card 2) (n ∷ s)) (readRest n s) (fault (card 2) (n ∷ s ++ t)) (readRest n (s ++ t)) (λ _. refl) (λ e.
       let most : n ≤ 64 = inside 2 64 n e .1 in
       before-then (Left 1) (λ _. ⊥) (readEntries n n s) (readEntries n n (s ++ t)) _ (entries-before n n 1 s (omega arith)) (λ es r l₁. end-before (record { stations = n; entries = es }) r l₁))
-    where
-      readRest : List ℕ → Got Page
-      readRest u = readEntries n n u then λ es r. readEnd (record { stations = n; entries = es }) r
 
   -- a fault stands at the same place in both
   opened-before : (s : List ℕ) (limit : ℕ) (g h : Got Page) → Before t (λ _. ⊥) g h → opened (length s) limit g ≡ opened (length (s ++ t)) limit h
@@ -149,13 +144,13 @@ long-refused s limit l =
     go (fault c r) b = refl
 
 taken-length : (s : List ℕ) (limit : ℕ) → openCall s limit .answer ≡ card 0 → length s ≤ sheetMost
-taken-length s limit e = let most : ¬ (sheetMost < length s) = late (taken s limit e) in omega arith
+taken-length s limit e = let most : ¬ (sheetMost < length s) = late (taken-sheet s limit e) in omega arith
   where
     -- it would have no station
-    late : Says s limit → sheetMost < length s → ⊥
-    late says l =
-        let stations : says .page .stations ≡ 0 = ap (λ (o : Opened). o .work .n) (sym (says .opened)) ∙ ap (λ (w : Work). w .n) (long-refused s limit l) in
-        omega (arith, says .well .two)
+    late : TakenSheet s limit → sheetMost < length s → ⊥
+    late t l =
+        let stations : t .page .stations ≡ 0 = ap (λ (o : Opened). o .work .n) (sym (t .opened)) ∙ ap (λ (w : Work). w .n) (long-refused s limit l) in
+        omega (arith, t .well .two)
 
 -- a record with all its fields
 abbrev whole : Entry
