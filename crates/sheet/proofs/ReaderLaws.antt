@@ -22,11 +22,11 @@ use Rattle.circuit.proofs.StateLaws.{inside}
 use Rattle.sheet.specs.Layout.{allows, fixes}
 use Rattle.sheet.specs.Open.{Got, fault, little, readSet, readFixed, readFields, readEntry}
 use Rattle.sheet.specs.inner.Reader.{GotAt, FaultAt, IsField, IsRecord}
-use Rattle.sheet.specs.declared.Field.{Field}
-use Rattle.sheet.specs.declared.Field.the-variants.{Allows}
-use Rattle.sheet.specs.declared.Read.{Read}
-use Rattle.sheet.specs.declared.Read.the-variants.{Whole}
-use Rattle.sheet.specs.declared.Stations.{Stations}
+use Rattle.sheet.specs.declared.reader.Field.{Field}
+use Rattle.sheet.specs.declared.reader.Field.the-variants.{Allows}
+use Rattle.sheet.specs.declared.reader.Read.{Read}
+use Rattle.sheet.specs.declared.reader.Read.the-variants.{Whole}
+use Rattle.sheet.specs.declared.reader.Stations.{Stations}
 
 -- ---- parts
 

@@ -54,7 +54,7 @@ module _ (k n : ℕ) where
 
 module _ (n i : ℕ) (s r : List ℕ) (es : List Entry) (before : readEntries i n s ≡ got es r) where
   -- one record more
-  pub read-more : (e : Entry) (q : List ℕ) → readEntry n r ≡ got e q → readEntries (i + 1) n s ≡ got (es ++ (e ∷ [])) q
+  read-more : (e : Entry) (q : List ℕ) → readEntry n r ≡ got e q → readEntries (i + 1) n s ≡ got (es ++ (e ∷ [])) q
   unfolding readEntries
   read-more e q h = read-add 1 n i s ∙ rw (before, h)
 

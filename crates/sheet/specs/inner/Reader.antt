@@ -8,10 +8,10 @@ use lib.Dec.{eqb}
 use lib.ListN.{length, getD, drop}
 use Rattle.bitset.specs.Sets.{has, setOf}
 use Rattle.circuit.specs.declared.card.Answer.{Answer}
-use Rattle.sheet.specs.declared.Field.{Field}
-use Rattle.sheet.specs.declared.Field.the-variants as field
-use Rattle.sheet.specs.declared.Read.{Read}
-use Rattle.sheet.specs.declared.Read.the-variants as read
+use Rattle.sheet.specs.declared.reader.Field.{Field}
+use Rattle.sheet.specs.declared.reader.Field.the-variants as field
+use Rattle.sheet.specs.declared.reader.Read.{Read}
+use Rattle.sheet.specs.declared.reader.Read.the-variants as read
 use Rattle.sheet.specs.Layout.{Entry, allows, fixes}
 use Rattle.sheet.specs.Open.{Got, got, fault}
 

@@ -6,8 +6,8 @@ use native.Mathlib.Omega.{arith}
 use lib.ListN.{getD, drop}
 use Rattle.sheet.specs.Open.{little}
 use Rattle.sheet.proofs.ReaderLaws.{word-turn, word-fits, word-room}
-use Rattle.sheet.proofs.word.Statement.{statement}
-use Rattle.sheet.proofs.word.Tie as tie
+use Rattle.sheet.proofs.reader.word.Statement.{statement}
+use Rattle.sheet.proofs.reader.word.Tie as tie
 
 abbrev Inv-loop : tie.InvT-loop
 Inv-loop part value₀ k₀ value k = (k ≤ 8) × (value ≡ little (8 - k) (drop k part)) × (value < 2 ^ (64 - 8 * k))

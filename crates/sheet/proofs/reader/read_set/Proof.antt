@@ -9,16 +9,33 @@ use borrow.Author.Tests.{not-true, not-false}
 use Rattle.bitset.proofs.MachineLaws.{full-setOf}
 use Rattle.sheet.specs.Open.{little}
 use Rattle.sheet.proofs.ReaderLaws.{rest-of, set-absent, set-cut, set-stray, set-whole}
-use Rattle.sheet.proofs.read_set.Statement.{statement}
-use Rattle.sheet.proofs.read_set.Tie as tie
+use Rattle.sheet.proofs.reader.read_set.Statement.{statement}
+use Rattle.sheet.proofs.reader.read_set.Tie as tie
+
+-- ---- places in the code, by the test that was passed last
+
+abbrev start : tie.Else1 → tie.Start
+start c = c .before .before
+
+abbrev stands : tie.Else2 → tie.Else1
+stands c = c .before
+
+abbrev is-whole : tie.After-word → tie.Else2
+is-whole c = c .before .before
+
+abbrev has-value : tie.After-full → tie.After-word
+has-value c = c .before
+
+abbrev given : tie.After-word → tie.Start
+given c = start (stands (is-whole c))
 
 -- the number that the 8 bytes are
-value : (c : tie.After-word) → c .word .result ≡ little 8 (drop (c .before .before .before .before .before .args .at) (c .before .before .before .before .before .args .part .now))
-value c = c .word .ensures ∙ ap (little 8) (rest-of (c .before .before .before .before .before .args .at) (c .before .before .before .before .before .args .part .now))
+value : (c : tie.After-word) → let a = given c .args in c .word .result ≡ little 8 (drop (a .at) (a .part .now))
+value c = let a = given c .args in c .word .ensures ∙ ap (little 8) (rest-of (a .at) (a .part .now))
 
 -- the largest set
-most : (c : tie.After-full) → c .full .result ≡ 2 ^ (c .before .before .before .before .before .before .args .n) - 1
-most c = c .full .ensures ∙ sym (full-setOf 64 (c .before .before .before .before .before .before .args .n) (c .before .before .before .before .before .before .pre .1))
+most : (c : tie.After-full) → c .full .result ≡ 2 ^ given (has-value c) .args .n - 1
+most c = let s = given (has-value c) in c .full .ensures ∙ sym (full-setOf 64 (s .args .n) (s .pre .1))
 
 returns : tie.Need-returns
 returns c =
@@ -30,7 +47,7 @@ sub-if2 c = search needs
 
 returns-2 : tie.Need-returns-2
 returns-2 c =
-    let b = c .before .before .before in
+    let b = start (c .before) in
     let a = b .args in
     rw (not-false (a .present) (c .before .if1 .left)) (set-cut (a .n) (a .at) (a .part .now) (b .pre .0) (c .if2 .taken))
 
@@ -51,24 +68,25 @@ full-requires c κs = search needs
 
 returns-3 : tie.Need-returns-3
 returns-3 c =
-    let b = c .before .before .before .before .before .before .before in
+    let w = has-value (c .before) in
+    let b = given w in
     let a = b .args in
-    let v = value (c .before .before) in
+    let v = value w in
     let f = most (c .before) in
-    rw (not-false (a .present) (c .before .before .before .before .before .if1 .left))
-    (set-stray (a .n) (a .at) (a .part .now) (b .pre .0) (c .before .before .before .before .if2 .left) (omega (arith, c .if3 .taken)))
+    rw (not-false (a .present) (stands (is-whole w) .if1 .left)) (set-stray (a .n) (a .at) (a .part .now) (b .pre .0) (is-whole w .if2 .left) (omega (arith, c .if3 .taken)))
 
 add-end : tie.Need-add-end
 add-end c = search needs
 
 returns-4 : tie.Need-returns-4
 returns-4 c =
-    let b = c .before .before .before .before .before .before .before in
+    let w = has-value (c .before) in
+    let b = given w in
     let a = b .args in
-    let v = value (c .before .before) in
+    let v = value w in
     let f = most (c .before) in
-    rw (not-false (a .present) (c .before .before .before .before .before .if1 .left), v)
-    (set-whole (a .n) (a .at) (a .part .now) (b .pre .0) (b .pre .1) (c .before .before .before .before .if2 .left) (omega (arith, c .if3 .left, pow-pos (a .n))))
+    rw (not-false (a .present) (stands (is-whole w) .if1 .left), v)
+    (set-whole (a .n) (a .at) (a .part .now) (b .pre .0) (b .pre .1) (is-whole w .if2 .left) (omega (arith, c .if3 .left, pow-pos (a .n))))
 
 pub read-set-spec : {M : Type 1} → statement M
 read-set-spec =

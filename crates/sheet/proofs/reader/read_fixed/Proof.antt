@@ -7,15 +7,32 @@ use lib.ListN.{getD}
 use borrow.Author.Tests.{not-true, not-false}
 use Rattle.circuit.proofs.StateLaws.{inside}
 use Rattle.sheet.proofs.ReaderLaws.{fixed-absent, fixed-cut, fixed-stray, fixed-whole}
-use Rattle.sheet.proofs.read_fixed.Statement.{statement}
-use Rattle.sheet.proofs.read_fixed.Tie as tie
+use Rattle.sheet.proofs.reader.read_fixed.Statement.{statement}
+use Rattle.sheet.proofs.reader.read_fixed.Tie as tie
 
--- the byte, past the tests
-abbrev byte : tie.Else3 → ℕ
-byte c = getD (c .before .before .before .before .before .before .args .part .now) (c .before .before .before .before .before .before .args .at) 0
+-- ---- places in the code, by the test that was passed last
 
-station : (c : tie.Else3) → (1 ≤ byte c) × (byte c ≤ c .before .before .before .before .before .before .args .n)
-station c = inside 1 (c .before .before .before .before .before .before .args .n) (byte c) (sym (c .before .outside .ensures) ∙ c .if3 .left)
+abbrev start : tie.Else1 → tie.Start
+start c = c .before .before
+
+abbrev stands : tie.Else2 → tie.Else1
+stands c = c .before
+
+abbrev is-whole : tie.After-outside → tie.Else2
+is-whole c = c .before .before
+
+abbrev asked : tie.Else3 → tie.After-outside
+asked c = c .before
+
+abbrev given : tie.After-outside → tie.Start
+given c = start (stands (is-whole c))
+
+-- the byte
+abbrev byte : tie.After-outside → ℕ
+byte c = getD (given c .args .part .now) (given c .args .at) 0
+
+station : (c : tie.Else3) → (1 ≤ byte (asked c)) × (byte (asked c) ≤ given (asked c) .args .n)
+station c = inside 1 (given (asked c) .args .n) (byte (asked c)) (sym (asked c .outside .ensures) ∙ c .if3 .left)
 
 returns : tie.Need-returns
 returns c =
@@ -27,7 +44,7 @@ sub-if2 c = search needs
 
 returns-2 : tie.Need-returns-2
 returns-2 c =
-    let b = c .before .before .before in
+    let b = start (c .before) in
     let a = b .args in
     rw (not-false (a .present) (c .before .if1 .left)) (fixed-cut (a .n) (a .at) (a .part .now) (b .pre .0) (c .if2 .taken))
 
@@ -35,17 +52,18 @@ shared-slice-read-station : tie.Need-shared-slice-read-station
 shared-slice-read-station c = search needs
 
 cast-station : tie.Need-cast-station
-cast-station c = omega (arith, c .shared-slice-known2 .given (c .before .before .before .before .args .at))
+cast-station c = omega (arith, c .shared-slice-known2 .given (start (stands (c .before)) .args .at))
 
 outside-requires : tie.Need-outside-requires
 outside-requires c κs = search needs
 
 returns-3 : tie.Need-returns-3
 returns-3 c =
-    let b = c .before .before .before .before .before .before in
+    let q = c .before in
+    let b = given q in
     let a = b .args in
-    rw (not-false (a .present) (c .before .before .before .before .if1 .left))
-    (fixed-stray (a .n) (a .at) (a .part .now) (b .pre .0) (c .before .before .before .if2 .left) (sym (c .before .outside .ensures) ∙ c .if3 .taken))
+    rw (not-false (a .present) (stands (is-whole q) .if1 .left))
+    (fixed-stray (a .n) (a .at) (a .part .now) (b .pre .0) (is-whole q .if2 .left) (sym (q .outside .ensures) ∙ c .if3 .taken))
 
 sub-singleton : tie.Need-sub-singleton
 sub-singleton c = station c .0
@@ -58,11 +76,12 @@ add-end c = search needs
 
 returns-4 : tie.Need-returns-4
 returns-4 c =
-    let b = c .before .before .before .before .before .before .before in
+    let q = asked (c .before) in
+    let b = given q in
     let a = b .args in
-    let fits = sym (c .before .before .outside .ensures) ∙ c .before .if3 .left in
-    rw (not-false (a .present) (c .before .before .before .before .before .if1 .left), c .singleton .ensures)
-    (fixed-whole (a .n) (a .at) (a .part .now) (b .pre .0) (c .before .before .before .before .if2 .left) fits)
+    let fits = sym (q .outside .ensures) ∙ c .before .if3 .left in
+    rw (not-false (a .present) (stands (is-whole q) .if1 .left), c .singleton .ensures)
+    (fixed-whole (a .n) (a .at) (a .part .now) (b .pre .0) (is-whole q .if2 .left) fits)
 
 pub read-fixed-spec : {M : Type 1} → statement M
 read-fixed-spec =
