@@ -14,7 +14,8 @@ use Rattle.bitset.proofs.SetLaws.{setOf-elim}
 use Rattle.bitset.proofs.QuantLaws.{any-intro, any-elim, any-ext}
 use Rattle.circuit.specs.Legs.{leg}
 use Rattle.circuit.specs.State.{stray}
-use Rattle.matching.specs.Matching.{nth, Assignment, Exact}
+use Rattle.bitset.specs.Upto.{row}
+use Rattle.matching.specs.Matching.{Assignment, Exact}
 use Rattle.separator.specs.declared.level.Spares.{Spares}
 use Rattle.separator.specs.Components.{components}
 use Rattle.separator.specs.Level.{Marking, marking, marked, choice, outMay, inMay, takes, passable, struck}
@@ -42,14 +43,14 @@ module _ (n s : ℕ) (d : Marking) (may R : ℕ → ℕ → ℕ → Bool) (most 
       any-low n (λ y. R x y m) most (λ y ly e. below y (only x y m e .1)) ∙ any-ext n _ _ (λ y ly. sym (agree x y m lx ly lm))
 
   module _ (fits : List ℕ) (some : ℕ) (S : Side R (d .last) fits some) where
-    fits-can : (c x : ℕ) → c < d .last → has (nth fits c) x ≡ true → CanTake n s d may c x
+    fits-can : (c x : ℕ) → c < d .last → has (row fits c) x ≡ true → CanTake n s d may c x
     fits-can c x l e =
         let r = setOf-elim 64 (λ x. any 64 (λ y. R x y (suc c))) x (ap (λ (w : ℕ). has w x) (sym (S .component c l)) ∙ e) in
         let y = any-elim 64 (λ y. R x y (suc c)) (r .1) in
         let i = only x (y .0) (suc c) (y .2) .0 in
         (below x i, i, sym (row-any x (suc c) (below x i) (omega arith)) ∙ r .1)
 
-    can-fits : (c x : ℕ) → c < d .last → CanTake n s d may c x → has (nth fits c) x ≡ true
+    can-fits : (c x : ℕ) → c < d .last → CanTake n s d may c x → has (row fits c) x ≡ true
     can-fits c x l (lx, i, e) =
         word-has 64 (λ x. any 64 (λ y. R x y (suc c))) (S .component c l) x (lt-of-lt-of-le lx most)
         ∙ row-any x (suc c) lx (omega arith) ∙ e

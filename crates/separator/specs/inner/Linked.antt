@@ -2,7 +2,7 @@
 use mathlib.Core.Path.{_≡_}
 use mathlib.Core.List.{List}
 use Prim.Native.Nat.{ℕ, _≤_, _<_}
-use lib.ListN.{getD, length}
+use lib.ListN.{length}
 use Rattle.bitset.specs.Sets.{has, any, setOf}
 use Rattle.bitset.specs.Upto.{row}
 use Rattle.circuit.specs.Legs.{neighbours}
@@ -14,4 +14,4 @@ pub record Linked (n : ℕ) (t nbr : List ℕ) : Type 0 where
 
 -- the stations below n of the sets of a list
 unfoldable pub stationsOf : ℕ → List ℕ → ℕ
-stationsOf n ls = setOf n (λ k. any (length ls) (λ c. has (getD ls c 0) k))
+stationsOf n ls = setOf n (λ k. any (length ls) (λ c. has (row ls c) k))

@@ -5,8 +5,9 @@ use mathlib.Core.Bool.{Bool, true, false, not, cond, _&&_}
 use mathlib.Core.List.{List, [], _∷_}
 use Prim.Native.Nat.{ℕ, suc, _<_}
 use lib.Dec.{eqb}
-use lib.ListN.{getD, length}
+use lib.ListN.{length}
 use Rattle.bitset.specs.Sets.{has, any, setOf, meet}
+use Rattle.bitset.specs.Upto.{row}
 use Rattle.circuit.specs.Legs.{leg, col}
 use Rattle.matching.specs.Matching.{Exact}
 use Rattle.separator.specs.declared.level.Spares.{Spares}
@@ -45,7 +46,7 @@ pub record EndsOf (on : ℕ → ℕ → Bool) (tails heads : ℕ) : Type 0 where
 -- `fits` has for each of the p components the stations that can take it, and `some` has the stations with a mark.
 pub record Side (may : ℕ → ℕ → ℕ → Bool) (p : ℕ) (fits : List ℕ) (some : ℕ) : Type 0 where
   pub size : length fits ≡ 64
-  pub component : (c : ℕ) → c < p → getD fits c 0 ≡ setOf 64 (λ x. any 64 (λ y. may x y (suc c)))
+  pub component : (c : ℕ) → c < p → row fits c ≡ setOf 64 (λ x. any 64 (λ y. may x y (suc c)))
   pub any-mark : some ≡ setOf 64 (λ x. any (suc p) (λ m. any 64 (λ y. may x y m)))
 
 -- every station of s has a mark and the components can be assigned, and `spare` has the stations that can be left out; or one of the two fails
@@ -66,7 +67,7 @@ cutRow s out into i w = cond (has s i) (setOf 64 (λ j. has w j && not (cuts s o
 -- each of the 64 words is cut
 pub record Cut (s out into : ℕ) (before after : List ℕ) : Type 0 where
   pub size : length after ≡ 64
-  pub word : (k : ℕ) → k < 64 → getD after k 0 ≡ cutRow s out into k (getD before k 0)
+  pub word : (k : ℕ) → k < 64 → row after k ≡ cutRow s out into k (row before k)
 
 -- what `spare_stations` says of the level s: whether it gives none, and otherwise that the rule strikes the legs that the cut takes out
 pub record SparesOf (n : ℕ) (t : List ℕ) (s : ℕ) (r : Spares) : Type 0 where
