@@ -39,10 +39,13 @@ module _ (may : ℕ → ℕ → ℕ → Bool) where
       }
 
   pub side-more : (c : ℕ) (fits : List ℕ) (some w d : ℕ) → Side may c fits some → c < 64
-      → w ≡ setOf 64 (λ x. any 64 (λ y. may x y (suc c))) → d ≡ suc c → Side may d (set fits c w) (bitOr some w)
+      → w ≡ setOf 64 (λ x. any 64 (λ y. may x y d)) → d ≡ suc c → Side may d (set fits c w) (bitOr some w)
   unfolding any marked
-  side-more c fits some w d S l e q = subst (λ (n : ℕ). Side may n (set fits c w) (bitOr some w)) (sym q) more
+  side-more c fits some w d S l is q = subst (λ (n : ℕ). Side may n (set fits c w) (bitOr some w)) (sym q) more
     where
+      e : w ≡ setOf 64 (marked (suc c))
+      e = is ∙ ap (λ (m : ℕ). setOf 64 (marked m)) q
+
       any-before : ℕ → Bool
       any-before x = any (suc c) (λ m. marked m x)
 

@@ -2,38 +2,26 @@
 use mathlib.Core.Path.{_≡_}
 use mathlib.Core.Logic.{_⊎_}
 use mathlib.Core.Bool.{Bool, true, false, not, cond, _&&_}
-use mathlib.Core.List.{List, [], _∷_}
-use Prim.Native.Nat.{ℕ, suc, _<_}
-use lib.Dec.{eqb}
+use mathlib.Core.List.{List}
+use Prim.Native.Nat.{ℕ, zero, suc, _<_}
 use lib.ListN.{length}
 use Rattle.bitset.specs.Sets.{has, any, setOf, meet}
 use Rattle.bitset.specs.Upto.{row}
 use Rattle.circuit.specs.Legs.{leg, col}
 use Rattle.matching.specs.Matching.{Exact}
 use Rattle.separator.specs.declared.level.Spares.{Spares}
-use Rattle.separator.specs.Level.{stands, marking, passable, struck}
+use Rattle.separator.specs.Level.{marking, passable, struck}
 
 -- ---- marks
-
--- i and j are two different stations of s
-unfoldable pub pair : ℕ → ℕ → ℕ → Bool
-pair s i j = has s i && has s j && not (eqb i j)
-
--- the mark m stands on the pair (i, j) of the level s with the components cs
-unfoldable pub markAt : List ℕ → ℕ → List ℕ → ℕ → ℕ → ℕ → Bool
-markAt t s cs i j m = pair s i j && stands 64 t cs i j m
-
--- the mark of the component w stands on the pair (i, j)
-abbrev pub through : List ℕ → ℕ → ℕ → ℕ → ℕ → Bool
-through t s w i j = markAt t s (w ∷ []) i j 1
-
--- the leg i→j stands on the pair (i, j)
-abbrev pub bare : List ℕ → ℕ → ℕ → ℕ → Bool
-bare t s i j = markAt t s [] i j 0
 
 -- the stations of s that have a leg from the component w
 unfoldable pub entered : List ℕ → ℕ → ℕ → ℕ
 entered t s w = setOf 64 (λ j. has s j && meet 64 (col 64 t j) w)
+
+-- the stations of s in which the mark m can end: all, where it is bare, and otherwise those that have a leg from its component
+unfoldable pub lastOf : List ℕ → ℕ → List ℕ → ℕ → ℕ
+lastOf t s cs zero = s
+lastOf t s cs (suc c) = entered t s (row cs c)
 
 -- `tails` has the first and `heads` the second stations of the pairs on which a mark stands
 pub record EndsOf (on : ℕ → ℕ → Bool) (tails heads : ℕ) : Type 0 where
