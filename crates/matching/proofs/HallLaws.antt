@@ -1,6 +1,6 @@
 -- Hall's argument, twice: why there is no assignment where the next component can have no station of `reach`, and why every assignment takes each
 -- station outside `reach`. The components at stations outside can only have stations outside, each of which one of them has. Assumes nothing.
-use mathlib.Core.Path.{_≡_, sym, ap, _∙_}
+use mathlib.Core.Path.{_≡_, refl, sym, ap, _∙_}
 use mathlib.Core.Logic.{_⊎_, _≢_, inl, inr, ⊎-elim}
 use mathlib.Core.Bool.{true, true≢false}
 use mathlib.Core.List.{List}
@@ -9,7 +9,7 @@ use native.Mathlib.Nat.{le-refl}
 use native.Mathlib.Decide.{ℕ-discrete}
 use native.Mathlib.Omega.{arith}
 use Rattle.bitset.specs.Sets.{has}
-use Rattle.bitset.proofs.BoolLaws.{not-both, is-false}
+use Rattle.bitset.proofs.BoolLaws.{cases, not-both, is-false}
 use Rattle.bitset.proofs.QuantLaws.{below?}
 use Rattle.bitset.proofs.FirstLaws.{some-or-all}
 use Rattle.bitset.specs.Upto.{row}
@@ -99,9 +99,11 @@ module _ (fits owner via : List ℕ) (n stations free reach : ℕ) (inside : Ins
   pub exact : Exact fits n stations true reach
   exact =
       record {
-        some = λ _. record { to = m .to; good = m .good };
-        none = λ e. absurd (true≢false e);
-        inside = λ _. r .forest .inside;
-        left = λ _. spare fits owner n stations free reach (row via) (r .rank) m (r .forest);
-        taken = λ _ s i o a. taken a s i o;
+        some = record { holds = λ _. record { to = m .to; good = m .good }; found = λ _. refl };
+        left = λ _ s.
+            record {
+              holds = λ i. (r .forest .inside s i, spare fits owner n stations free reach (row via) (r .rank) m (r .forest) s i);
+              found = λ (i, (a, out)). ⊎-elim (λ q. q) (λ o. let t = taken a s i o in absurd (out (t .0) (t .1) (t .2))) (cases (has reach s));
+            };
+        empty = λ e. absurd (true≢false e);
       }

@@ -5,6 +5,7 @@ use mathlib.Core.Bool.{Bool, true, false}
 use mathlib.Core.List.{List}
 use Prim.Native.Nat.{ℕ, _<_}
 use Rattle.bitset.specs.Sets.{has}
+use Rattle.bitset.specs.Tests.{Decides}
 use Rattle.bitset.specs.Upto.{row}
 
 -- the station s is in the word w, or is not
@@ -31,10 +32,8 @@ Inside fits p stations = (c s : ℕ) → c < p → In (row fits c) s → In stat
 abbrev pub LeftOut : List ℕ → ℕ → ℕ → Type 0
 LeftOut fits p s = (a : Assignment fits p) × ((c : ℕ) → c < p → a .to c ≡ s → ⊥)
 
--- `complete` says whether there is an assignment, and then `spare` has just the spare stations: every assignment takes each of the others
+-- `complete` says whether there is an assignment; then `spare` has just the spare stations, and otherwise none
 pub record Exact (fits : List ℕ) (p stations : ℕ) (complete : Bool) (spare : ℕ) : Type 0 where
-  pub some : complete ≡ true → Assignment fits p
-  pub none : complete ≡ false → Assignment fits p → ⊥
-  pub inside : complete ≡ true → (s : ℕ) → In spare s → In stations s
-  pub left : complete ≡ true → (s : ℕ) → In spare s → LeftOut fits p s
-  pub taken : complete ≡ true → (s : ℕ) → In stations s → Out spare s → (a : Assignment fits p) → (c : ℕ) × (c < p) × (a .to c ≡ s)
+  pub some : Decides complete (Assignment fits p)
+  pub left : complete ≡ true → (s : ℕ) → Decides (has spare s) (In stations s × LeftOut fits p s)
+  pub empty : complete ≡ false → spare ≡ 0

@@ -1,24 +1,24 @@
 -- What the words of a level's two sides say: the choices of the definition, and so the spare stations. Assumes nothing.
-use mathlib.Core.Path.{_≡_, refl, sym, ap, ap₂, _∙_}
+use mathlib.Core.Path.{_≡_, sym, ap, ap₂, _∙_}
 use mathlib.Core.Logic.{⊎-elim}
 use mathlib.Core.Bool.{Bool, true, false, not, _&&_}
 use mathlib.Core.List.{List}
 use Prim.Native.Nat.{ℕ, suc, _^_, _≤_, _<_}
 use native.Mathlib.Nat.{lt-of-lt-of-le}
 use native.Mathlib.Omega.{arith}
-use lib.ListN.{length, take}
 use borrow.Author.Tests.{not-false}
 use Rattle.bitset.specs.Sets.{has, any}
-use Rattle.bitset.proofs.BoolLaws.{iff, clash, cases, and-intro, and-l, and-r}
+use Rattle.bitset.proofs.BoolLaws.{iff, cases, and-intro, and-l, and-r}
 use Rattle.bitset.proofs.SetLaws.{setOf-elim}
 use Rattle.bitset.proofs.QuantLaws.{any-intro, any-elim, any-ext}
 use Rattle.circuit.specs.Legs.{leg}
 use Rattle.circuit.specs.State.{stray}
 use Rattle.bitset.specs.Upto.{row}
-use Rattle.matching.specs.Matching.{Assignment, Exact}
+use Rattle.matching.specs.Matching.{Assignment}
 use Rattle.separator.specs.declared.level.Spares.{Spares}
 use Rattle.separator.specs.Components.{components}
 use Rattle.separator.specs.Level.{Marking, marking, marked, marks, choice, outMay, inMay, takes, passable, struck}
+use Rattle.separator.specs.inner.Reach.{Listed}
 use Rattle.separator.specs.inner.Spares.{Side, Settled, SparesOf}
 use Rattle.separator.proofs.RepresentativeLaws.{Representatives, AllMarked, CanTake, choice-gives, choice-found}
 use Rattle.separator.proofs.TakesLaws.{takes-gives, takes-found}
@@ -86,34 +86,23 @@ module _ (n s p : ℕ) (may R : ℕ → ℕ → ℕ → Bool) (most : n ≤ 64) 
       side-choice = iff (choice n s p may) complete there back
         where
           back : complete ≡ true → choice n s p may ≡ true
-          back e = let r = T .yes e in choice-found n s p may (all-marked (r .0)) (represent (r .1 .some refl))
+          back e = let (M, a) = T .both .holds e in choice-found n s p may (all-marked M) (represent a)
 
           there : choice n s p may ≡ true → complete ≡ true
-          there e =
-              let r = choice-gives n s p may e in
-              ⊎-elim (λ q. q) (λ q. ⊎-elim
-              (λ (x, i, z). clash (sym (r .0 x (below x i) i) ∙ sym (some-marked x (below x i)) ∙ z))
-              (λ E. absurd (E .none refl (assign (r .1))))
-              (T .no q)) (cases complete)
+          there e = let (M, R) = choice-gives n s p may e in T .both .found (λ x i. some-marked x (below x i) ∙ M x (below x i) i, assign R)
 
       -- and then the spare stations are those that can take a leg bare
       side-takes : complete ≡ true → (x y : ℕ) → x < n → has s x ≡ true → y < n → choice n s p (takes x y may) ≡ may x y 0 && has spare x
       unfolding assign represent
       side-takes e x y l i ly = iff (choice n s p (takes x y may)) (may x y 0 && has spare x) there back
         where
-          E : Exact fits p s true spare
-          E = T .yes e .1
-
           there : choice n s p (takes x y may) ≡ true → may x y 0 && has spare x ≡ true
-          there f =
-              let r = takes-gives n s p may x y l i f in
-              let taken : has spare x ≡ false → ⊥ = λ q. let t = E .taken refl x i q (assign (r .2)) in r .3 (t .0) (t .1) (t .2) in
-              and-intro (r .0) (⊎-elim (λ q. q) (λ q. absurd (taken q)) (cases (has spare x)))
+          there f = let (on, M, R, out) = takes-gives n s p may x y l i f in and-intro on (T .left e x .found (i, (assign R, out)))
 
           back : may x y 0 && has spare x ≡ true → choice n s p (takes x y may) ≡ true
           back f =
-              let (a, out) = E .left refl x (and-r (may x y 0) (has spare x) f) in
-              takes-found n s p may x y ly (and-l (may x y 0) (has spare x) f) (all-marked (T .yes e .0)) (represent a) out
+              let (_, (a, out)) = T .left e x .holds (and-r (may x y 0) (has spare x) f) in
+              takes-found n s p may x y ly (and-l (may x y 0) (has spare x) f) (all-marked (T .both .holds e .0)) (represent a) out
 
       side-says : SideSays n s p may complete spare
       side-says = (side-choice, side-takes)
@@ -121,15 +110,15 @@ module _ (n s p : ℕ) (may R : ℕ → ℕ → ℕ → Bool) (most : n ≤ 64) 
 -- ---- both sides: the words of the code, for the table t, the level s and its p components
 
 module _ (n : ℕ) (t : List ℕ) (most : n ≤ 64) (clean : stray n t ≡ false) (s : ℕ) (low : s < 2 ^ n)
-    (p : ℕ) (parts : List ℕ) (room : p ≤ length parts) (parted : take p parts ≡ components n t s) where
+    (p : ℕ) (parts : List ℕ) (L : Listed (components n t s) parts p) where
   abbrev d : Marking
   d = marking n t s
 
   last : p ≡ d .last
-  last = last-is n t most clean s p parts room parted
+  last = last-is n t most clean s p parts L
 
   agree : (i j m : ℕ) → i < n → j < n → m < suc (d .last) → marks d i j m ≡ marked 64 t s parts i j m
-  agree = marks-is n t most clean s p parts room parted
+  agree = marks-is n t most clean s p parts L
 
   -- both the out-choices and the in-choices can take the leg i→j bare
   bares : ℕ → ℕ → Bool
@@ -165,7 +154,7 @@ module _ (n : ℕ) (t : List ℕ) (most : n ≤ 64) (clean : stray n t ≡ false
       inner b i j li lj e h =
           let hi : has s i ≡ true = and-l (has s i) (has s j) h in
           let hj : has s j ≡ true = and-r (has s i) (has s j) h in
-          let m : marks d i j 0 ≡ true = marks-bare n t most clean s p parts room parted i j li lj e hi hj in
+          let m : marks d i j 0 ≡ true = marks-bare n t most clean s p parts L i j li lj e hi hj in
           ap₂ (λ (x y : Bool). x && y)
           (out .1 (and-l leaving entering b) i j li hi lj ∙ ap (λ (x : Bool). x && has (r .out) i) m)
           (into .1 (and-r leaving entering b) j i lj hj li ∙ ap (λ (x : Bool). x && has (r .into) j) m)

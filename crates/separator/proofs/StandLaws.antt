@@ -5,19 +5,21 @@ use mathlib.Core.Bool.{Bool, true, false, not, _&&_}
 use mathlib.Core.List.{List}
 use Prim.Native.Nat.{ℕ, zero, suc, _≤_, _<_}
 use native.Mathlib.Nat.{zero-lt-suc, le-of-suc-le-suc, lt-of-lt-of-le}
+use native.Mathlib.Omega.{arith}
 use lib.Dec.{eqb}
-use lib.ListN.{length, take}
-use lib.Seq.{length-take-le, getD-take}
 use Rattle.bitset.specs.Sets.{has, setOf, any, meet}
 use Rattle.bitset.specs.Upto.{row}
 use Rattle.bitset.proofs.BoolLaws.{not-both, and-l}
 use Rattle.bitset.proofs.SetLaws.{has-setOf}
 use Rattle.bitset.proofs.QuantLaws.{any-ext}
+use Rattle.bitset.proofs.UptoLaws.{getD-upto}
 use Rattle.circuit.specs.Legs.{leg, col}
 use Rattle.circuit.specs.State.{stray}
 use Rattle.circuit.proofs.StateLaws.{stray-self}
 use Rattle.separator.specs.Components.{components}
 use Rattle.separator.specs.Level.{joins, stands, marked, marking, marks}
+use Rattle.separator.specs.inner.Reach.{Listed}
+use Rattle.separator.proofs.PartLaws.{components-most}
 use Rattle.separator.proofs.CleanLaws.{any-low, leg-low}
 use Rattle.separator.proofs.MarkingLaws.{marked-intro, marks-marked}
 
@@ -46,10 +48,10 @@ module _ (n : ℕ) (t : List ℕ) (most : n ≤ 64) (clean : stray n t ≡ false
   stands-64 cs i j zero li = refl
   stands-64 cs i j (suc c) li = joins-64 (row cs c) i j li
 
-  module _ (s p : ℕ) (parts : List ℕ) (room : p ≤ length parts) (parted : take p parts ≡ components n t s) where
+  module _ (s p : ℕ) (parts : List ℕ) (L : Listed (components n t s) parts p) where
     pub last-is : p ≡ marking n t s .last
     unfolding marking
-    last-is = sym (length-take-le p parts room) ∙ ap length parted
+    last-is = L .many
 
     pub marks-is : (i j m : ℕ) → i < n → j < n → m < suc (marking n t s .last) → marks (marking n t s) i j m ≡ marked 64 t s parts i j m
     unfolding marking marked
@@ -58,7 +60,7 @@ module _ (n : ℕ) (t : List ℕ) (most : n ≤ 64) (clean : stray n t ≡ false
         ∙ ap (λ (b : Bool). has s i && has s j && not (eqb i j) && b)
         (stands-64 (components n t s) i j m li
         ∙ stands-list 64 t (components n t s) parts i j p m (subst (λ (q : ℕ). m < suc q) (sym last-is) lm)
-        (λ c l. ap (λ (cs : List ℕ). row cs c) (sym parted) ∙ getD-take p parts c 0 l))
+        (λ c l. sym (ap (λ (cs : List ℕ). row cs c) (L .array) ∙ getD-upto 64 (row (components n t s)) 0 c (omega (arith, L .many, components-most n t s)))))
 
     -- a leg between two stations of s is a bare mark
     pub marks-bare : (i j : ℕ) → i < n → j < n → leg t i j ≡ true → has s i ≡ true → has s j ≡ true → marks (marking n t s) i j 0 ≡ true

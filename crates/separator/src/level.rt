@@ -3,19 +3,20 @@
 ghost use mathlib.Core.Path.{_≡_};
 ghost use mathlib.Core.Bool.{true, false, _&&_};
 ghost use Prim.Native.Nat.{ℕ, _^_, _<_, _≤_};
-ghost use lib.ListN.{length, take};
+ghost use lib.ListN.{length};
 ghost use Rattle.bitset.specs.Sets.{has, setOf};
 ghost use Rattle.circuit.specs.State.{stray};
 ghost use Rattle.matching.specs.Matching.{Inside};
 ghost use Rattle.separator.specs.Components.{components};
 ghost use Rattle.separator.specs.Level.{joins, stands, marked};
+ghost use Rattle.separator.specs.inner.Reach.{Listed};
 ghost use Rattle.separator.specs.inner.Spares.{entered, lastOf, EndsOf, Side, Settled, SparesOf, cutRow, Cut};
 
 // What one level allows: none, or the stations that some out-choice and some in-choice leave free for a bare leg.
-pub struct Spares {
-    pub none: bool,
-    pub out: u64,
-    pub into: u64,
+pub(crate) struct Spares {
+    pub(crate) none: bool,
+    pub(crate) out: u64,
+    pub(crate) into: u64,
 }
 
 // The tails i and the heads j of the pairs (i, j) on which a mark stands.
@@ -117,10 +118,10 @@ fn settle(fits: &[u64; 64], p: usize, s: u64, some: u64) -> matching::Assigned
 }
 
 // The spare stations of the level s, out and in; `parts` has the p components outside s, and n is the number of stations of the table.
-pub fn spare_stations(rows: &[u64; 64], s: u64, parts: &[u64; 64], p: usize) -> Spares
-    requires { ⌜ (p ≤ 64) × (length (now parts) ≡ 64) ⌝ }
+pub(crate) fn spare_stations(rows: &[u64; 64], s: u64, parts: &[u64; 64], p: usize) -> Spares
+    requires { ⌜ p ≤ 64 ⌝ }
     ensures { λ r. ⌜ ((n : ℕ) → n ≤ 64 → stray n (now (rows .entry)) ≡ false → s < 2 ^ n
-        → take p (now (parts .entry)) ≡ components n (now (rows .entry)) s → SparesOf n (now (rows .entry)) s r) ⌝ }
+        → Listed (components n (now (rows .entry)) s) (now (parts .entry)) p → SparesOf n (now (rows .entry)) s r) ⌝ }
 {
     let mut out = [0u64; 64];
     let mut into = [0u64; 64];
@@ -147,7 +148,7 @@ fn cut_word(w: u64, s: u64, out: u64, into: u64, i: usize) -> u64
 }
 
 // Cuts the word of every station of s. The rows and the columns of a table stay those of one table if the columns are cut with `out` and `into` swapped.
-pub fn cut(words: &mut [u64; 64], s: u64, out: u64, into: u64)
+pub(crate) fn cut(words: &mut [u64; 64], s: u64, out: u64, into: u64)
     requires { ⌜ length (now words) ≡ 64 ⌝ }
     ensures { λ _. ⌜ Cut s out into (now (words .entry)) (now (words .exit)) ⌝ }
 {

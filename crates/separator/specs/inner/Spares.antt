@@ -1,14 +1,14 @@
 -- What the functions of one level promise: the rule of `specs/Level` on words. The code does not know n, so it reads a table as one of 64 stations.
 use mathlib.Core.Path.{_≡_}
-use mathlib.Core.Logic.{_⊎_}
 use mathlib.Core.Bool.{Bool, true, false, not, cond, _&&_}
 use mathlib.Core.List.{List}
 use Prim.Native.Nat.{ℕ, zero, suc, _<_}
 use lib.ListN.{length}
 use Rattle.bitset.specs.Sets.{has, any, setOf, meet}
+use Rattle.bitset.specs.Tests.{Decides}
 use Rattle.bitset.specs.Upto.{row}
 use Rattle.circuit.specs.Legs.{leg, col}
-use Rattle.matching.specs.Matching.{Exact}
+use Rattle.matching.specs.Matching.{Assignment, LeftOut}
 use Rattle.separator.specs.declared.level.Spares.{Spares}
 use Rattle.separator.specs.Level.{marking, passable, struck}
 
@@ -37,10 +37,12 @@ pub record Side (may : ℕ → ℕ → ℕ → Bool) (p : ℕ) (fits : List ℕ)
   pub component : (c : ℕ) → c < p → row fits c ≡ setOf 64 (λ x. any 64 (λ y. may x y (suc c)))
   pub any-mark : some ≡ setOf 64 (λ x. any (suc p) (λ m. any 64 (λ y. may x y m)))
 
--- every station of s has a mark and the components can be assigned, and `spare` has the stations that can be left out; or one of the two fails
+-- `complete` says whether every station of s has a mark and the components can be assigned; then `spare` has just the stations that some assignment
+-- leaves out, and otherwise none
 pub record Settled (fits : List ℕ) (p s some : ℕ) (complete : Bool) (spare : ℕ) : Type 0 where
-  pub yes : complete ≡ true → ((x : ℕ) → has s x ≡ true → has some x ≡ true) × Exact fits p s true spare
-  pub no : complete ≡ false → ((x : ℕ) × (has s x ≡ true) × (has some x ≡ false)) ⊎ Exact fits p s false spare
+  pub both : Decides complete (((x : ℕ) → has s x ≡ true → has some x ≡ true) × Assignment fits p)
+  pub left : complete ≡ true → (x : ℕ) → Decides (has spare x) ((has s x ≡ true) × LeftOut fits p x)
+  pub empty : complete ≡ false → spare ≡ 0
 
 -- ---- the cut
 
@@ -57,7 +59,8 @@ pub record Cut (s out into : ℕ) (before after : List ℕ) : Type 0 where
   pub size : length after ≡ 64
   pub word : (k : ℕ) → k < 64 → row after k ≡ cutRow s out into k (row before k)
 
--- what `spare_stations` says of the level s: whether it gives none, and otherwise that the rule strikes the legs that the cut takes out
+-- What `spare_stations` says of the level s: whether it gives none, and otherwise that the rule strikes the legs that the cut takes out. Left open are
+-- `out` and `into` where it gives none, and besides their stations without a leg inside s: nothing depends on these.
 pub record SparesOf (n : ℕ) (t : List ℕ) (s : ℕ) (r : Spares) : Type 0 where
   pub verdict : r .none ≡ not (passable n s (marking n t s))
   pub strikes : r .none ≡ false → (i j : ℕ) → i < n → j < n → leg t i j ≡ true
