@@ -52,8 +52,8 @@ pub(crate) fn pass_on(
     requires { ⌜ (n ≤ 64) × (seed < n) × Columned n (now rows) (now cols) ⌝ }
     ensures { λ r. ⌜ TableTaken n (pass n (now (rows .entry)) limit seed) r (now (rows .exit)) (now (cols .exit)) ⌝ }
 {
-    let nbr = separator::reach::neighbours(rows, cols, n);
-    let found = separator::reach::levels_from(&nbr, seed);
+    let nbr = separator::neighbours(rows, cols, n);
+    let found = separator::levels_from(&nbr, seed);
     let level = found.level;
     take_levels(rows, cols, n, limit, &level, found.count)
 }

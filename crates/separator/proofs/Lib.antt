@@ -2,6 +2,7 @@
 pub mod ComponentLaws
 pub mod ConnectedLaws
 pub mod ChooseLaws
+pub mod MarkingLaws
 pub mod Excursion
 pub mod RoundChoice
 pub mod Separator

@@ -1,7 +1,7 @@
 -- What the functions of the list check promise each other.
 use mathlib.Core.Path.{_≡_}
 use mathlib.Core.Logic.{_≢_}
-use mathlib.Core.Bool.{Bool, true, false, not, _&&_}
+use mathlib.Core.Bool.{Bool, not, _&&_}
 use mathlib.Core.List.{List}
 use Prim.Native.Nat.{ℕ, pred, _<_}
 use lib.ListN.{getD}
@@ -20,8 +20,3 @@ goodEntries n t s = all n (λ i. goodEntry n (row t i) (getD s i 0))
 -- the first return to station 0 is after n steps
 abbrev pub Returns : ℕ → (ℕ → ℕ) → Type 0
 Returns n h = (iter h n 0 ≡ 0) × ((k : ℕ) → 0 < k → k < n → iter h k 0 ≢ 0)
-
--- the test b says whether P holds
-pub record Decides (b : Bool) (P : Type 0) : Type 0 where
-  pub holds : b ≡ true → P
-  pub fails : b ≡ false → P → ⊥

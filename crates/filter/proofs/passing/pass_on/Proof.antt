@@ -2,11 +2,12 @@
 use borrow.Author.Needs.{needs}
 use mathlib.Core.Path.{_≡_, ap}
 use mathlib.Core.List.{List}
-use Prim.Native.Nat.{ℕ}
-use lib.ListN.{length}
+use Prim.Native.Nat.{ℕ, _≤_}
+use lib.ListN.{length, take}
 use Rattle.circuit.proofs.StateLaws.{stray-row}
+use Rattle.separator.proofs.LevelsLaws.{levels-taken}
 use Rattle.separator.proofs.InnerLaws.{level-below}
-use Rattle.separator.specs.Levels.{inner}
+use Rattle.separator.specs.Levels.{levels, inner}
 use Rattle.filter.specs.Pass.{passOver, pass}
 use Rattle.filter.proofs.TakeLaws.{taken-as}
 use Rattle.filter.proofs.passing.pass_on.Statement.{statement}
@@ -20,24 +21,35 @@ neighbours-requires c κs =
 levels-from-requires : tie.Need-levels-from-requires
 levels-from-requires c κs = search needs
 
+-- ---- places in the code
+
+abbrev linked : tie.After-levels-from → tie.After-neighbours
+linked c = c .before .before
+
+abbrev start : tie.After-levels-from → tie.Start
+start c = linked c .before .before .before
+
+-- the levels are found
+found : (c : tie.After-levels-from) → (c .levels-from .result .count ≤ 64) × (take (c .levels-from .result .count) (c .levels-from .result .level) ≡ levels (start c .args .n) (start c .args .rows .now) (start c .args .seed))
+found c =
+    let s = start c in
+    let n = s .args .n in
+    let t = s .args .rows .now in
+    levels-taken n t (s .args .seed) (s .pre .0) (c .levels-from .ensures n t (record { most = s .pre .0; table = linked c .neighbours .ensures }) (s .pre .1))
+
 take-levels-requires : tie.Need-take-levels-requires
 take-levels-requires c κs =
-    let found = c .before .before .before .before in
-    let nbr = found .before .before in
-    let s = nbr .before .before .before in
-    let n = s .args .n in
-    let of = found .levels-from .ensures .1 n (s .args .rows .now) (nbr .neighbours .ensures) (s .pre .1) in
-    let long : length (found .levels-from .result .level) ≡ 64 = (let ok = found .levels-from .ok in search needs) in
-    (s .pre .0, found .levels-from .ensures .0, long, level-below n (s .args .rows .now) (s .args .seed) _ _ (of .1) (s .pre .1), s .pre .2)
+    let f = c .before .before .before .before in
+    let s = start f in
+    let long : length (f .levels-from .result .level) ≡ 64 = (let ok = f .levels-from .ok in search needs) in
+    (s .pre .0, found f .0, long, level-below (s .args .n) (s .args .rows .now) (s .args .seed) _ _ (found f .1) (s .pre .1), s .pre .2)
 
 returns : tie.Need-returns
 unfolding pass
 returns c =
-    let found = c .before .before .before .before .before in
-    let nbr = found .before .before in
-    let s = nbr .before .before .before in
-    let of = found .levels-from .ensures .1 (s .args .n) (s .args .rows .now) (nbr .neighbours .ensures) (s .pre .1) in
-    taken-as (ap (λ (l : List ℕ). passOver (inner l) (s .args .n) (s .args .limit) (s .args .rows .now)) (of .1)) (c .take-levels .ensures)
+    let f = c .before .before .before .before .before in
+    let a = start f .args in
+    taken-as (ap (λ (l : List ℕ). passOver (inner l) (a .n) (a .limit) (a .rows .now)) (found f .1)) (c .take-levels .ensures)
 
 pub pass-on-spec : {M : Type 1} → statement M
 pass-on-spec =
