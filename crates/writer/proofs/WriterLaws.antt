@@ -6,7 +6,7 @@ use native.Mathlib.Nat.{le-of-eq}
 use native.Mathlib.Omega.{arith}
 use lib.ListN.{length, take, drop, length-append, length-drop, drop-of-length-le}
 use lib.Seq.{take-all, drop-drop, take-at, drop-at}
-use Rattle.report.specs.inner.Writer.{Wrote}
+use Rattle.writer.specs.inner.Writer.{Wrote}
 
 -- the same text, put together in another way
 pub wrote-as : {t u d e : List ℕ} {r : ℕ} → t ≡ u → Wrote t d e r → Wrote u d e r
