@@ -56,6 +56,11 @@ fn stop(work: Work) -> Step
     Step { taken: 0, work }
 }
 
+// A cast of an element in place would ask that it fits; of a parameter that is known.
+fn end_of(code: u8) -> End {
+    End::of_code(code as u64)
+}
+
 fn open(part: &[u8], work: Work) -> Step
     ensures { λ r. ⌜ r .taken ≤ length (now (part .entry)) ⌝ }
 {
@@ -96,7 +101,7 @@ fn set_work(part: &[u8], work: Work) -> Step
         read_u64(part, 9) as usize,
         read_u64(part, 17) as usize,
         mark == 1,
-        End::of_code(end as u64),
+        end_of(end),
     );
     print_work(next);
     Step {

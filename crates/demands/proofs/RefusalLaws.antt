@@ -17,7 +17,8 @@ use Rattle.circuit.specs.Check.{isList, checkCall}
 use Rattle.sheet.specs.declared.Opened.{Opened}
 use Rattle.sheet.specs.Layout.{Page}
 use Rattle.sheet.specs.Open.{Got, got, fault, readPage, refused, opened, openCall}
-use Rattle.report.specs.Lines.{short, text, reportCall, reportBytes}
+use Rattle.writer.specs.Lent.{short, written}
+use Rattle.report.specs.Lines.{text, reportCall, reportBytes}
 use Rattle.filter.specs.declared.rule.Rule.{Rule}
 use Rattle.filter.specs.declared.hand.Called.{Called}
 use Rattle.filter.specs.declared.cycle.Ran.{Ran}
@@ -75,7 +76,7 @@ list-refused w s =
     yes = record { answer = Taken; yes = isList (w .n) (rowsOf w) s }
 
 pub report-refused : (w : Work) (buffer : List ℕ) → Refusal (reportCall w buffer .answer) → (reportCall w buffer .len ≡ 0) × (reportBytes w buffer ≡ buffer)
-unfolding reportCall reportBytes
+unfolding reportCall reportBytes written
 report-refused w buffer h =
     ⊎-elim (λ (e : bad w ≡ true). (rw e, rw e)) (λ (e : bad w ≡ false).
-    ⊎-elim (λ (s : short w buffer ≡ true). (rw (e, s), rw (e, s))) (λ (s : short w buffer ≡ false). absurd (h (rw (e, s)))) (cases (short w buffer))) (cases (bad w))
+    ⊎-elim (λ (s : short (text w) buffer ≡ true). (rw (e, s), rw (e, s))) (λ (s : short (text w) buffer ≡ false). absurd (h (rw (e, s)))) (cases (short (text w) buffer))) (cases (bad w))

@@ -1,4 +1,4 @@
--- The legs of a row in the text: walked from the least on, their length by counts of ones, and that they are those of the rules. Assumes nothing.
+-- The legs of a row in the text: walked from the least on, and their length by counts of ones. Assumes nothing.
 use mathlib.Core.Path.{_≡_, refl, sym, ap, ap₂, _∙_}
 use mathlib.Core.Logic.{⊎-elim}
 use mathlib.Core.Bool.{Bool, true, false, not, cond, _&&_, and-true}
@@ -19,11 +19,8 @@ use Rattle.bitset.proofs.SetLaws.{has-diff}
 use Rattle.bitset.proofs.OnesLaws.{size-ones}
 use Rattle.bitset.proofs.LeastLaws.{trailing-least, has-clear}
 use Rattle.bitset.proofs.MachineLaws.{has-ones}
-use Rattle.bitset.specs.Upto.{row}
-use Rattle.circuit.specs.Legs.{leg}
-use Rattle.report.specs.Lines.{nexts}
-use Rattle.report.specs.inner.Writer.{legTo, legsTo}
-use Rattle.report.proofs.NumeralLaws.{numeral-one, numeral-two, station-numeral}
+use Rattle.writer.proofs.NumberLaws.{decimal-one, decimal-two}
+use Rattle.report.specs.Lines.{legTo, legsTo}
 
 -- members below k do not matter
 legs-same : (m k w v : ℕ) → ((j : ℕ) → k ≤ j → has w j ≡ has v j) → legsTo m k w ≡ legsTo m k v
@@ -77,10 +74,10 @@ unfolding digit
 leg-length k l = ⊎-elim narrow wide (below? k 9)
   where
     narrow : k < 9 → length (legTo k) ≡ 2 + digit (not (ltb k 9))
-    narrow h = rw (lt-ltb k 9 h, numeral-one (k + 1) (omega arith))
+    narrow h = rw (lt-ltb k 9 h, decimal-one (k + 1) (omega arith))
 
     wide : 9 ≤ k → length (legTo k) ≡ 2 + digit (not (ltb k 9))
-    wide h = rw (le-ltb k 9 h, numeral-two (k + 1) (omega arith) (omega arith))
+    wide h = rw (le-ltb k 9 h, decimal-two (k + 1) (omega arith) (omega arith))
 
 maybe-length : (k : ℕ) (rest : List ℕ) → k < 64 → (b : Bool) → length (cond b (legTo k ++ rest) rest) ≡ 2 * digit b + digit (b && not (ltb k 9)) + length rest
 unfolding digit
@@ -109,19 +106,3 @@ legs-length w h =
     legs-count 64 0 w (has w) (has v) (omega arith) (λ j. ap (has w) (sym (zero-add j)))
     (λ j l. wide j l ∙ ap (λ (x : ℕ). has w x && not (ltb x 9)) (sym (zero-add j)))
     ∙ ap₂ (λ (a b : ℕ). 2 * a + b) (size-ones 64 w h) (size-ones 64 v (omega (arith, and-le-l w ((2 ^ 64 - 1) - (2 ^ 9 - 1)))))
-
--- ---- the legs of the rules
-
-pub legs-nexts : (m k i : ℕ) (t : List ℕ) → k + m ≤ 64 → nexts m k t i ≡ legsTo m k (row t i)
-unfolding nexts legsTo leg
-legs-nexts zero k i t l = refl
-legs-nexts (suc m) k i t l =
-    rw (station-numeral k (omega arith), legs-nexts m (suc k) i t (omega arith))
-
--- where w has nothing beyond the first m stations, more stations add nothing
-pub legs-pad : (m n k w : ℕ) → m ≤ n → ((j : ℕ) → k + m ≤ j → has w j ≡ false) → legsTo n k w ≡ legsTo m k w
-unfolding legsTo
-legs-pad zero n k w l f = legs-none n k w (λ j g. f j (omega arith))
-legs-pad (suc m) zero k w l f = absurd (omega arith)
-legs-pad (suc m) (suc n) k w l f =
-    ap (λ (rest : List ℕ). cond (has w k) (legTo k ++ rest) rest) (legs-pad m n (suc k) w (omega arith) (λ j g. f j (omega arith)))

@@ -10,7 +10,7 @@ use Rattle.report.specs.Lines.{linesFrom, text}
 
 -- the station lines of the full table of n
 abbrev pub fullText : ℕ → List ℕ
-fullText n = linesFrom n 0 n (fullTable n)
+fullText n = linesFrom n 0 (fullTable n)
 
 -- the bytes of the longest: 64 lines of 184
 abbrev pub textMost : ℕ

@@ -10,8 +10,9 @@ use Rattle.bitset.proofs.BoolLaws.{cond-elim}
 use Rattle.circuit.specs.declared.state.Work.{Work}
 use Rattle.report.specs.declared.Reported.{Reported}
 use Rattle.circuit.specs.State.{bad}
-use Rattle.report.specs.Lines.{short, reportCall}
-use Rattle.report.proofs.LineLaws.{report-length}
+use Rattle.writer.specs.Lent.{short}
+use Rattle.report.specs.Lines.{text, reportCall}
+use Rattle.report.proofs.ReportLaws.{report-length}
 use Rattle.prune.proofs.print_lines.Statement.{statement}
 use Rattle.prune.proofs.print_lines.Tie as tie
 
@@ -19,7 +20,7 @@ within : (w : Work) (buffer : List ℕ) → reportCall w buffer .len ≤ length 
 unfolding reportCall short
 within w buffer =
     cond-elim (λ (r : Reported). r .len ≤ length buffer) (bad w) _ _ (λ _. zero-le) (λ _.
-    cond-elim (λ (r : Reported). r .len ≤ length buffer) (short w buffer) _ _ (λ _. zero-le) (λ e. ltb-false _ _ e))
+    cond-elim (λ (r : Reported). r .len ≤ length buffer) (short (text w) buffer) _ _ (λ _. zero-le) (λ e. ltb-false _ _ e))
 
 report-requires : tie.Need-report-requires
 report-requires c κs = search needs

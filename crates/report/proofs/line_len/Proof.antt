@@ -1,6 +1,6 @@
 -- `report::line_len` meets its contract. Assumes nothing.
 use borrow.Author.Needs.{needs}
-use Rattle.report.proofs.TextLaws.{line-length}
+use Rattle.report.proofs.LineLaws.{line-length}
 use Rattle.report.proofs.line_len.Statement.{statement}
 use Rattle.report.proofs.line_len.Tie as tie
 

@@ -6,14 +6,13 @@ use Prim.Native.Nat.{ℕ, _+_, _-_, _*_, _≤_}
 use native.Mathlib.Omega.{arith}
 use lib.ListN.{length, length-append}
 use Rattle.bitset.specs.Upto.{row}
-use Rattle.report.specs.Lines.{linesFrom}
-use Rattle.report.specs.inner.Writer.{lineTo}
-use Rattle.report.proofs.TextLaws.{lines-none, lines-more, lines-all}
+use Rattle.report.specs.Lines.{lineOf, linesFrom}
+use Rattle.report.proofs.LineLaws.{lines-none, lines-more, lines-all}
 use Rattle.report.proofs.lines_len.Statement.{statement}
 use Rattle.report.proofs.lines_len.Tie as tie
 
 abbrev Inv-loop : tie.InvT-loop
-Inv-loop n rows len₀ i₀ len i = (i ≤ n) × (len ≤ 196 * i) × (len + length (linesFrom (n - i) i n rows) ≡ length (linesFrom n 0 n rows))
+Inv-loop n rows len₀ i₀ len i = (i ≤ n) × (len ≤ 196 * i) × (len + length (linesFrom (n - i) i rows) ≡ length (linesFrom n 0 rows))
 
 abbrev μ-loop : tie.MeasureT-loop
 μ-loop n rows len₀ i₀ len i = n - i
@@ -45,8 +44,8 @@ loop-again c =
     let n : ℕ = start .args .n in
     let i : ℕ = c .before .before .loop .i in
     let rows : List ℕ = start .args .t2 in
-    let more = lines-more n i rows (omega arith) (start .pre .1) (omega arith) in
-    (omega arith, omega arith, omega (arith, ap length more, length-append (lineTo i (row rows i)) (linesFrom (n - (i + 1)) (i + 1) n rows)))
+    let more = lines-more n i rows (omega arith) in
+    (omega arith, omega arith, omega (arith, ap length more, length-append (lineOf i (row rows i)) (linesFrom (n - (i + 1)) (i + 1) rows)))
 
 returns : tie.Need-returns Inv-loop μ-loop
 returns c = omega (arith, ap length (lines-all (c .before .before .args .n) (c .before .loop .i) (c .before .before .args .t2) (omega arith)))

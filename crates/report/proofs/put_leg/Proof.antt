@@ -1,6 +1,6 @@
 -- `report::put_leg` meets its contract. Assumes nothing.
 use borrow.Author.Needs.{needs}
-use Rattle.report.proofs.WriterLaws.{wrote-then}
+use Rattle.writer.proofs.WriterLaws.{wrote-then}
 use Rattle.report.proofs.put_leg.Statement.{statement}
 use Rattle.report.proofs.put_leg.Tie as tie
 

@@ -9,9 +9,9 @@ use lib.Bits.{bitAnd, and-le-l}
 use lib.Count.{ones, trailingZeros}
 use lib.ListN.{length}
 use Rattle.bitset.proofs.LeastLaws.{trailing-least, ones-clear}
-use Rattle.report.specs.inner.Writer.{legTo, legsTo}
+use Rattle.report.specs.Lines.{legTo, legsTo}
 use Rattle.report.proofs.LegLaws.{legs-least, legs-empty}
-use Rattle.report.proofs.WriterLaws.{Writing, writing-none, writing-room, writing-more, writing-all}
+use Rattle.writer.proofs.WriterLaws.{Writing, writing-none, writing-room, writing-more, writing-all}
 use Rattle.report.proofs.put_legs.Statement.{statement}
 use Rattle.report.proofs.put_legs.Tie as tie
 

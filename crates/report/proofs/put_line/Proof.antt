@@ -1,13 +1,10 @@
 -- `report::put_line` meets its contract: four writers, one after another. Assumes nothing.
 use borrow.Author.Needs.{needs}
 use mathlib.Core.List.{append-assoc}
-use Rattle.report.specs.inner.Writer.{lineTo}
-use Rattle.report.proofs.WriterLaws.{wrote-as, wrote-then}
+use Rattle.report.specs.Lines.{lineOf}
+use Rattle.writer.proofs.WriterLaws.{wrote-as, wrote-then}
 use Rattle.report.proofs.put_line.Statement.{statement}
 use Rattle.report.proofs.put_line.Tie as tie
-
-cast-put-number : tie.Need-cast-put-number
-cast-put-number c = search needs
 
 add-put-number : tie.Need-add-put-number
 add-put-number c = search needs
@@ -64,7 +61,7 @@ same-length : tie.Need-same-length
 same-length c = search needs
 
 returns : tie.Need-returns
-unfolding lineTo
+unfolding lineOf
 returns c =
     let number = c .before .before .before .before .before .before .before .before .before .before .before .before .before .before in
     let colon = c .before .before .before .before .before .before .before .before .before .before in
@@ -76,6 +73,6 @@ returns c =
 pub put-line-spec : {M : Type 1} → statement M
 put-line-spec =
     tie.close
-    (tie.spec cast-put-number add-put-number put-number-requires sub-put-byte part-put-byte-start part-put-byte-end
+    (tie.spec add-put-number put-number-requires sub-put-byte part-put-byte-start part-put-byte-end
     put-byte-requires add-colon sub-put-legs part-put-legs-start part-put-legs-end put-legs-requires add-legs sub-put-byte-2
     part-put-byte-start-2 part-put-byte-end-2 put-byte-requires-2 add-result same-length returns)

@@ -6,15 +6,14 @@ use Prim.Native.Nat.{ℕ, _+_, _-_, _≤_}
 use native.Mathlib.Omega.{arith}
 use lib.ListN.{length}
 use Rattle.bitset.specs.Upto.{row}
-use Rattle.report.specs.Lines.{linesFrom}
-use Rattle.report.specs.inner.Writer.{lineTo}
-use Rattle.report.proofs.TextLaws.{line-length, lines-none, lines-more, lines-all}
-use Rattle.report.proofs.WriterLaws.{Writing, writing-none, writing-room, writing-more, writing-all}
+use Rattle.report.specs.Lines.{lineOf, linesFrom}
+use Rattle.report.proofs.LineLaws.{line-length, lines-none, lines-more, lines-all}
+use Rattle.writer.proofs.WriterLaws.{Writing, writing-none, writing-room, writing-more, writing-all}
 use Rattle.report.proofs.put_lines.Statement.{statement}
 use Rattle.report.proofs.put_lines.Tie as tie
 
 abbrev Inv-loop : tie.InvT-loop
-Inv-loop buf₀ n rows at₀ i₀ buf at i = (i ≤ n) × Writing (linesFrom n 0 n rows) (linesFrom (n - i) i n rows) buf₀ buf at
+Inv-loop buf₀ n rows at₀ i₀ buf at i = (i ≤ n) × Writing (linesFrom n 0 rows) (linesFrom (n - i) i rows) buf₀ buf at
 
 abbrev μ-loop : tie.MeasureT-loop
 μ-loop buf₀ n rows at₀ i₀ buf at i = n - i
@@ -30,14 +29,14 @@ module _ (c : tie.In-loop Inv-loop μ-loop) where
   abbrev i : ℕ
   i = c .before .loop .i
 
-  split : linesFrom (n - i) i n rows ≡ lineTo i (row rows i) ++ linesFrom (n - (i + 1)) (i + 1) n rows
-  split = lines-more n i rows (omega arith) (c .before .before .before .pre .1) (omega arith)
+  split : linesFrom (n - i) i rows ≡ lineOf i (row rows i) ++ linesFrom (n - (i + 1)) (i + 1) rows
+  split = lines-more n i rows (omega arith)
 
-  room : c .before .loop .at + length (lineTo i (row rows i)) ≤ length (c .before .loop .buf)
-  room = writing-room (lineTo i (row rows i)) (linesFrom (n - (i + 1)) (i + 1) n rows) split (c .before .loop .inv .1)
+  room : c .before .loop .at + length (lineOf i (row rows i)) ≤ length (c .before .loop .buf)
+  room = writing-room (lineOf i (row rows i)) (linesFrom (n - (i + 1)) (i + 1) rows) split (c .before .loop .inv .1)
 
 loop-holds : tie.Need-loop-holds Inv-loop μ-loop
-loop-holds c = (omega arith, rw lines-none (writing-none _ _ (c .before .pre .2)))
+loop-holds c = (omega arith, rw lines-none (writing-none _ _ (c .before .pre .1)))
 
 sub-put-line : tie.Need-sub-put-line Inv-loop μ-loop
 sub-put-line c = search needs

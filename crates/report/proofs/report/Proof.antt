@@ -6,8 +6,9 @@ use Prim.Native.Nat.{_≤_}
 use native.Mathlib.Omega.{arith}
 use lib.ListN.{length}
 use Rattle.circuit.specs.State.{bad}
+use Rattle.circuit.proofs.StateLaws.{good}
 use Rattle.report.specs.Lines.{text}
-use Rattle.report.proofs.ReportLaws.{good-rows, bad-work, no-room, taken}
+use Rattle.report.proofs.ReportLaws.{bad-work, no-room, taken}
 use Rattle.report.proofs.report.Statement.{statement}
 use Rattle.report.proofs.report.Tie as tie
 
@@ -29,7 +30,7 @@ returns : tie.Need-returns
 returns c = bad-work _ _ (sym (c .before .is-bad .ensures) ∙ c .if1 .taken)
 
 lines-len-requires : tie.Need-lines-len-requires
-lines-len-requires c κs = good-rows _ (state-good (c .before .before))
+lines-len-requires c κs = good _ (state-good (c .before .before)) .most
 
 returns-2 : tie.Need-returns-2
 unfolding text
@@ -37,7 +38,7 @@ returns-2 c = no-room _ _ (state-good (c .before .before .before .before)) (omeg
 
 put-lines-requires : tie.Need-put-lines-requires
 unfolding text
-put-lines-requires c κs = let g = good-rows _ (state-good (c .before .before .before .before .before)) in (g .0, g .1, room (c .before))
+put-lines-requires c κs = (good _ (state-good (c .before .before .before .before .before)) .most, room (c .before))
 
 same-length : tie.Need-same-length
 same-length c = search needs

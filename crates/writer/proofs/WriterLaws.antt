@@ -6,7 +6,7 @@ use native.Mathlib.Nat.{le-of-eq}
 use native.Mathlib.Omega.{arith}
 use lib.ListN.{length, take, drop, length-append, length-drop, drop-of-length-le}
 use lib.Seq.{take-all, drop-drop, take-at, drop-at}
-use Rattle.report.specs.inner.Writer.{Wrote}
+use Rattle.writer.specs.inner.Writer.{Wrote}
 
 -- the same text, put together in another way
 pub wrote-as : {t u d e : List ℕ} {r : ℕ} → t ≡ u → Wrote t d e r → Wrote u d e r
@@ -15,12 +15,15 @@ wrote-as {t} {u} {d} {e} {r} q h = subst (λ (x : List ℕ). Wrote x d e r) q h
 wrote-length : {t d e : List ℕ} {r : ℕ} → Wrote t d e r → length t ≤ length d → length e ≡ length d
 wrote-length {t} {d} {e} {r} h room = ap length (h .bytes) ∙ omega (arith, length-append t (drop (length t) d), length-drop (length t) d)
 
+-- the bytes that were filled are the text
+pub wrote-front : {t d e : List ℕ} {r : ℕ} → Wrote t d e r → take r e ≡ t
+wrote-front {t} {d} {e} {r} h = ap (take r) (h .bytes) ∙ take-at t (drop (length t) d) r (sym (h .count))
+
 -- Lent `&mut buf[r..]`, whose bytes are `take (length e - r) (drop r e)`, the second writer leaves ys there; the buffer is then
 -- `take r e ++ (ys ++ drop (length e - r) (drop r e))`.
 pub wrote-then : {t u d e ys : List ℕ} {r s : ℕ} → Wrote t d e r → Wrote u (take (length e - r) (drop r e)) ys s
     → Wrote (t ++ u) d (take r e ++ (ys ++ drop (length e - r) (drop r e))) (r + s)
 wrote-then {t} {u} {d} {e} {ys} {r} {s} a b =
-    let front : take r e ≡ t = ap (take r) (a .bytes) ∙ take-at t (drop (length t) d) r (sym (a .count)) in
     let back : drop r e ≡ drop (length t) d = ap (drop r) (a .bytes) ∙ drop-at t (drop (length t) d) r (sym (a .count)) in
     let none : drop (length e - r) (drop r e) ≡ [] = drop-of-length-le (drop r e) (le-of-eq (length-drop r e)) in
     let part : take (length e - r) (drop r e) ≡ drop r e = take-all (length e - r) (drop r e) (le-of-eq (length-drop r e)) in
@@ -28,7 +31,7 @@ wrote-then {t} {u} {d} {e} {ys} {r} {s} a b =
     record {
       count = omega (arith, a .count, b .count, length-append t u);
       bytes =
-          rw (front, none, append-nil ys, was, drop-drop (length u) (length t) d, length-append t u, append-assoc t u (drop (length t + length u) d));
+          rw (wrote-front a, none, append-nil ys, was, drop-drop (length u) (length t) d, length-append t u, append-assoc t u (drop (length t + length u) d));
     }
 
 -- A loop of writers, r bytes into the text, with `left` still to be written; there is room for it.

@@ -1,4 +1,4 @@
--- `report::put_number` meets its contract: the higher digits are the number of a tenth, and the last digit follows them.
+-- `writer::put_number` meets its contract: the higher digits are the number of a tenth, and the last digit follows them.
 -- It calls itself, so the proof is that of a cycle of calls; what falls is the number. Assumes nothing.
 use borrow.Author.Needs.{needs}
 use borrow.Fn.Kinds.{In}
@@ -7,14 +7,14 @@ use mathlib.Core.Path.{sym, ap}
 use Prim.Native.Nat.{ℕ, _+_, _≤_, _<_}
 use native.Mathlib.Omega.{arith}
 use lib.ListN.{length}
-use Rattle.report.proofs.NumeralLaws.{numeral-one, numeral-more, numeral-more-length}
-use Rattle.report.proofs.WriterLaws.{wrote-as, wrote-then}
-use Rattle.report.proofs.put_number.Reads as reads
-use Rattle.report.proofs.put_number.Kinds as kinds
-use Rattle.report.proofs.put_digit.Reads as put-digit-reads
-use Rattle.report.proofs.+put_number.Lts-put_number as lts
-use Rattle.report.proofs.+put_number.{statement}
-use Rattle.report.proofs.+put_number.Tie.{close}
+use Rattle.writer.proofs.NumberLaws.{decimal-one, decimal-more, decimal-more-length}
+use Rattle.writer.proofs.WriterLaws.{wrote-as, wrote-then}
+use Rattle.writer.proofs.put_number.Reads as reads
+use Rattle.writer.proofs.put_number.Kinds as kinds
+use Rattle.writer.proofs.put_digit.Reads as put-digit-reads
+use Rattle.writer.proofs.+put_number.Lts-put_number as lts
+use Rattle.writer.proofs.+put_number.{statement}
+use Rattle.writer.proofs.+put_number.Tie.{close}
 
 abbrev measure : Measures 1 kinds.ps ℕ
 measure κs a = a .1 .0
@@ -32,7 +32,7 @@ module _ (t : ℕ) where
   put-digit-requires : lts.Need-put-digit-requires claims entry reads.Post
   put-digit-requires c κs =
       let x : ℕ = c .before .before .before .args .x in
-      (omega arith, omega (arith, ap length (numeral-one x (omega arith))))
+      (omega arith, omega (arith, ap length (decimal-one x (omega arith))))
 
   same-length : lts.Need-same-length claims entry reads.Post
   same-length c = search needs
@@ -40,18 +40,18 @@ module _ (t : ℕ) where
   returns : lts.Need-returns claims entry reads.Post
   returns c =
       let x : ℕ = c .before .before .before .before .before .before .args .x in
-      wrote-as (sym (numeral-one x (omega arith))) (c .before .before .put-digit .ensures)
+      wrote-as (sym (decimal-one x (omega arith))) (c .before .before .put-digit .ensures)
 
   -- ---- more digits
 
   put-number-requires : lts.Need-put-number-requires claims entry reads.Post
   put-number-requires c κs =
       let x : ℕ = c .before .before .before .args .x in
-      (omega arith, omega (arith, numeral-more-length x (omega arith) (omega arith)))
+      (omega arith, omega (arith, decimal-more-length x (omega arith)))
 
   -- there is room for the last digit
   room : (c : lts.After-put-number claims entry reads.Post) → c .put-number .result + 1 ≤ length (c .put-number .last .0)
-  room c = omega (arith, numeral-more-length (c .before .before .before .before .args .x) (omega arith) (omega arith))
+  room c = omega (arith, decimal-more-length (c .before .before .before .before .args .x) (omega arith))
 
   sub-put-digit : lts.Need-sub-put-digit claims entry reads.Post
   sub-put-digit c = omega (arith, room (c .before .before))
@@ -75,7 +75,7 @@ module _ (t : ℕ) where
   returns-2 c =
       let at = c .before .before .before .before .before .before in
       let x : ℕ = at .before .before .before .before .args .x in
-      wrote-as (sym (numeral-more x (omega arith) (omega arith))) (wrote-then (at .put-number .ensures) (c .before .before .put-digit2 .ensures))
+      wrote-as (sym (decimal-more x (omega arith))) (wrote-then (at .put-number .ensures) (c .before .before .put-digit2 .ensures))
 
 pub +put-number-spec : {M : Type 1} → statement M
 +put-number-spec =

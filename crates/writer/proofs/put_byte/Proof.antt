@@ -1,9 +1,9 @@
--- `report::put_byte` meets its contract. Assumes nothing.
+-- `writer::put_byte` meets its contract. Assumes nothing.
 use borrow.Author.Needs.{needs}
 use mathlib.Core.Path.{refl}
 use lib.Seq.{set-split}
-use Rattle.report.proofs.put_byte.Statement.{statement}
-use Rattle.report.proofs.put_byte.Tie as tie
+use Rattle.writer.proofs.put_byte.Statement.{statement}
+use Rattle.writer.proofs.put_byte.Tie as tie
 
 slice-write-buf : tie.Need-slice-write-buf
 slice-write-buf c = search needs

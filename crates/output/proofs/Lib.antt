@@ -1,0 +1,3 @@
+-- Laws of the program's text.
+pub mod PrintLaws
+pub mod ExampleLaws

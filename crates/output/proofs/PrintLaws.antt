@@ -1,0 +1,84 @@
+-- The texts as the writers put them together, and the two ways out of a print. Assumes nothing.
+use mathlib.Core.Path.{_≡_, sym, ap, _∙_, subst}
+use mathlib.Core.Logic.{⊎-elim}
+use mathlib.Core.Bool.{Bool, true, false}
+use mathlib.Core.List.{List, _++_, append-assoc}
+use Prim.Native.Nat.{ℕ, _≤_, _<_, zero-le}
+use native.Mathlib.Nat.{le-of-eq}
+use native.Mathlib.Omega.{arith}
+use lib.ListN.{length}
+use borrow.Author.Tests.{eq-eqb, ne-eqb}
+use Rattle.bitset.proofs.BoolLaws.{cases, cond-true, cond-false, cond-elim}
+use Rattle.writer.specs.Text.{ascii, decimal}
+use Rattle.writer.specs.inner.Writer.{Wrote}
+use Rattle.writer.proofs.LentLaws.{is-short, has-room, written-short, written-room}
+use Rattle.circuit.specs.declared.state.Work.{Work}
+use Rattle.circuit.specs.declared.card.Answer.the-variants.{Taken}
+use Rattle.sheet.specs.declared.Opened.{Opened}
+use Rattle.filter.specs.declared.Ran.{Ran}
+use Rattle.output.specs.declared.Printed.{Printed}
+use Rattle.circuit.specs.Card.{number, card, word}
+use Rattle.circuit.specs.State.{isNone, rowsOf, Good}
+use Rattle.circuit.proofs.CardLaws.{number-one}
+use Rattle.sheet.specs.Open.{openCall}
+use Rattle.sheet.proofs.TakenLaws.{opened-good}
+use Rattle.filter.specs.Calls.{runCall}
+use Rattle.filter.proofs.CallLaws.{runCall-leads}
+use Rattle.report.specs.Lines.{linesFrom, text}
+use Rattle.output.specs.Program.{openedLine, ranLine, stationLines, takenText, refusedLine, openedText, printed}
+use Rattle.output.specs.inner.Prints.{Prints, shown}
+
+-- ---- a text into a lent buffer
+
+-- the same text, put together in another way
+pub prints-as : {t u d e : List ℕ} {r : Printed} → t ≡ u → Prints t d e r → Prints u d e r
+prints-as {t} {u} {d} {e} {r} q h = subst (λ (x : List ℕ). Prints x d e r) q h
+
+module _ (text d : List ℕ) where
+  pub no-room : length d < length text → Prints text d d (record { answer = card 10; len = 0 })
+  unfolding printed
+  no-room l = record { result = sym (cond-true _ _ (is-short text d l)); bytes = sym (written-short text d l) }
+
+  pub taken : (e : List ℕ) (r : ℕ) → length text ≤ length d → Wrote text d e r → Prints text d e (record { answer = card 0; len = r })
+  unfolding printed
+  taken e r l h = record { result = rw (has-room text d l, h .count); bytes = h .bytes ∙ sym (written-room text d l) }
+
+-- ---- the text
+
+regroup : (x a b c : List ℕ) → x ++ (a ++ b ++ c) ≡ x ++ a ++ b ++ c
+regroup x a b c = simp append-assoc
+
+-- line 2: the two numbers, and the end
+pub ran-line : (r : Ran)
+    → (ascii "steps " ++ decimal (r .steps) ++ ascii " removed " ++ decimal (r .removed)) ++ (ascii " end " ++ ascii (word (r .work .end)) ++ ascii "\n") ≡ ranLine r
+unfolding ranLine
+ran-line r =
+    regroup (ascii "steps " ++ decimal (r .steps) ++ ascii " removed " ++ decimal (r .removed)) (ascii " end ") (ascii (word (r .work .end))) (ascii "\n")
+
+shown-lines : (w : Work) → linesFrom (shown w) 0 (rowsOf w) ≡ stationLines w
+unfolding stationLines text linesFrom
+shown-lines w = ⊎-elim (λ (e : isNone (w .end) ≡ true). rw e) (λ (e : isNone (w .end) ≡ false). rw e) (cases (isNone (w .end)))
+
+pub shown-most : (w : Work) (budget : ℕ) → Good w → shown (runCall w budget .work) ≤ 64
+shown-most w budget g =
+    let v : Work = runCall w budget .work in
+    let same : v .n ≡ w .n = runCall-leads w budget .stations in
+    cond-elim (λ (k : ℕ). k ≤ 64) (isNone (v .end)) 0 (v .n) (λ _. zero-le) (λ _. omega (arith, g .most))
+
+-- the text of an opened state that has run
+pub taken-text : (w : Work) (r : Ran) → r ≡ runCall w 300000 → openedLine w ++ ranLine r ++ linesFrom (shown (r .work)) 0 (rowsOf (r .work)) ≡ takenText w
+unfolding takenText
+taken-text w r e = rw (e, shown-lines (runCall w 300000 .work))
+
+module _ (o : Opened) where
+  pub opened-taken : number (o .answer) ≡ 0 → takenText (o .work) ≡ openedText o
+  unfolding openedText
+  opened-taken e = sym (cond-true _ _ (eq-eqb (number (o .answer)) 0 e))
+
+  pub opened-refused : (number (o .answer) ≡ 0 → ⊥) → refusedLine (number (o .answer)) (o .at) ≡ openedText o
+  unfolding openedText
+  opened-refused e = sym (cond-false (takenText (o .work)) _ (ne-eqb (number (o .answer)) 0 e))
+
+-- the state of a taken sheet is good
+pub taken-good : (s : List ℕ) → number (openCall s 64 .answer) ≡ 0 → Good (openCall s 64 .work)
+taken-good s e = opened-good s 64 (number-one (openCall s 64 .answer) Taken e)

@@ -1,0 +1,55 @@
+-- What the program prints for a sheet, and the lent buffer that it is written to.
+use mathlib.Core.Bool.{cond}
+use mathlib.Core.List.{List, [], _++_}
+use Prim.Native.Nat.{ℕ}
+use lib.Dec.{eqb}
+use lib.ListN.{length}
+use Rattle.writer.specs.Text.{ascii, decimal}
+use Rattle.writer.specs.Lent.{short}
+use Rattle.circuit.specs.declared.state.Work.{Work}
+use Rattle.sheet.specs.declared.Opened.{Opened}
+use Rattle.filter.specs.declared.Ran.{Ran}
+use Rattle.output.specs.declared.Printed.{Printed}
+use Rattle.circuit.specs.Card.{number, card, word}
+use Rattle.circuit.specs.Legs.{legs}
+use Rattle.circuit.specs.State.{isNone, rowsOf}
+use Rattle.sheet.specs.Open.{openCall}
+use Rattle.filter.specs.Calls.{runCall}
+use Rattle.report.specs.Lines.{text}
+
+-- line 1: stations and legs as opened
+unfoldable pub openedLine : Work → List ℕ
+openedLine w = ascii "stations " ++ decimal (w .n) ++ ascii " legs " ++ decimal (legs (w .n) (rowsOf w)) ++ ascii "\n"
+
+-- line 2: steps, legs removed, end
+unfoldable pub ranLine : Ran → List ℕ
+ranLine r = ascii "steps " ++ decimal (r .steps) ++ ascii " removed " ++ decimal (r .removed) ++ ascii " end " ++ ascii (word (r .work .end)) ++ ascii "\n"
+
+-- the station lines, unless the end is none
+unfoldable pub stationLines : Work → List ℕ
+stationLines w = let lines = text w in cond (isNone (w .end)) [] lines
+
+-- of an opened state, run with budget 300,000: two lines, and the station lines
+unfoldable pub takenText : Work → List ℕ
+takenText w = let r = runCall w 300000 in openedLine w ++ ranLine r ++ stationLines (r .work)
+
+-- of a refused sheet: one line, its number, then its place
+unfoldable pub refusedLine : ℕ → ℕ → List ℕ
+refusedLine k at = ascii "refused " ++ decimal k ++ ascii " at " ++ decimal at ++ ascii "\n"
+
+-- of a sheet opened with limit 64
+unfoldable pub openedText : Opened → List ℕ
+openedText o =
+    let taken = takenText (o .work) in
+    let k = number (o .answer) in
+    cond (eqb k 0) taken (refusedLine k (o .at))
+
+-- what the program prints for the bytes of a sheet
+unfoldable pub programText : List ℕ → List ℕ
+programText s = openedText (openCall s 64)
+
+-- what the call hands back for a text and a lent buffer
+unfoldable pub printed : List ℕ → List ℕ → Printed
+printed text buffer =
+    cond (short text buffer) (record { answer = card 10; len = 0 })
+    (record { answer = card 0; len = length text })
