@@ -15,13 +15,13 @@ use Rattle.writer.proofs.LentLaws.{is-short, has-room, written-short, written-r
 use Rattle.circuit.specs.declared.state.Work.{Work}
 use Rattle.circuit.specs.declared.card.Answer.the-variants.{Taken}
 use Rattle.sheet.specs.declared.Opened.{Opened}
-use Rattle.filter.specs.declared.Ran.{Ran}
+use Rattle.filter.specs.declared.cycle.Ran.{Ran}
 use Rattle.output.specs.declared.Printed.{Printed}
 use Rattle.circuit.specs.Card.{number, card, word}
 use Rattle.circuit.specs.State.{isNone, rowsOf, Good}
 use Rattle.circuit.proofs.CardLaws.{number-one}
 use Rattle.sheet.specs.Open.{openCall}
-use Rattle.sheet.proofs.TakenLaws.{opened-good}
+use Rattle.sheet.proofs.GrammarLaws.{opened-good}
 use Rattle.filter.specs.Calls.{runCall}
 use Rattle.filter.proofs.CallLaws.{runCall-leads}
 use Rattle.report.specs.Lines.{linesFrom, text}

@@ -7,7 +7,7 @@ use native.Mathlib.Omega.{arith}
 use lib.ListN.{length}
 use Rattle.writer.proofs.WriterLaws.{wrote-front}
 use Rattle.circuit.specs.State.{rowsOf}
-use Rattle.filter.specs.declared.Ran.{Ran}
+use Rattle.filter.specs.declared.cycle.Ran.{Ran}
 use Rattle.report.specs.Lines.{linesFrom}
 use Rattle.output.specs.inner.Prints.{shown}
 use Rattle.output.proofs.PrintLaws.{prints-as, shown-most, taken-text}
