@@ -12,7 +12,7 @@ use Rattle.bitset.proofs.BoolLaws.{not-both, is-false}
 use Rattle.bitset.specs.Upto.{row}
 use Rattle.matching.specs.Matching.{In, Out, Assigns}
 use Rattle.matching.specs.inner.Paths.{Matched, Step, Forest}
-use Rattle.matching.proofs.WordLaws.{Without}
+use Rattle.bitset.proofs.WordLaws.{Without}
 use Rattle.matching.proofs.PutLaws.{Put, put, put-is, put-same, put-other}
 
 -- `to` gives every component below m a station but c

@@ -7,7 +7,7 @@ use lib.ListN.{set, length-set}
 use borrow.Author.Needs.{needs}
 use Rattle.bitset.specs.Upto.{row}
 use Rattle.matching.specs.Matching.{Inside}
-use Rattle.matching.proofs.WordLaws.{in-and, and-none, without-one}
+use Rattle.bitset.proofs.WordLaws.{in-and, and-none, without-one}
 use Rattle.matching.proofs.PutLaws.{put-set}
 use Rattle.matching.proofs.PathLaws.{direct}
 use Rattle.matching.proofs.HallLaws.{inside-less, stuck}
@@ -47,7 +47,7 @@ returns c =
       size = b .pre .1;
       yes = λ _. direct (now (a .fits)) (now (a .owner)) (set (now (a .owner)) s (a .n)) (a .n) (a .stations) (a .free) s _ m (i .0) (i .1)
           (simp length-set (m .size)) (put-set (now (a .owner)) s (a .n) (omega (arith, l .below, m .size)))
-          (without-one (a .free) s (c .singleton .result) (b .fits .free .fits) (l .below) (c .singleton .ensures));
+          (without-one 64 (a .free) s (c .singleton .result) (b .fits .free .fits) (l .below) (c .singleton .ensures));
       no = λ e. absurd (true≢false e);
     }
 

@@ -11,7 +11,7 @@ use Rattle.bitset.specs.Sets.{has}
 use Rattle.bitset.proofs.BoolLaws.{not-both, is-false}
 use Rattle.bitset.proofs.HasLaws.{has-zero}
 use Rattle.bitset.specs.Upto.{row}
-use Rattle.matching.proofs.WordLaws.{With, in-and, and-none, in-diff, diff-in, with-one, without-least}
+use Rattle.bitset.proofs.WordLaws.{With, in-and, and-none, in-diff, diff-in, with-one, without-least}
 use Rattle.matching.proofs.PutLaws.{put-set}
 use Rattle.matching.proofs.SearchLaws.{Search, search-start, search-found, search-blocked, grown-less}
 use Rattle.matching.proofs.reachable.Statement.{statement}
@@ -31,7 +31,7 @@ loop-holds c =
       omega (arith, and-le-l (a .stations) ((2 ^ 64 - 1) - a .free), c .fits .stations .fits),
       c .pre .0,
       search-start (now (a .fits)) (a .stations) (a .free) _ _ _ (c .pre .1)
-          (λ u. (in-diff (a .stations) (a .free) u (c .fits .stations .fits) (c .fits .free .fits), diff-in (a .stations) (a .free) u (c .fits .stations .fits) (c .fits .free .fits))),
+          (λ u. (in-diff 64 (a .stations) (a .free) (c .fits .stations .fits) (c .fits .free .fits) u, diff-in 64 (a .stations) (a .free) (c .fits .stations .fits) (c .fits .free .fits) u)),
     )
 
 lowest-requires : tie.Need-lowest-requires Inv-loop μ-loop
@@ -78,7 +78,7 @@ joined : (c : tie.After-singleton Inv-loop μ-loop)
     (bitOr (c .before .before .before .before .before .before .before .loop .reach) (c .singleton .result))
 joined c =
     let d = c .before .before .before .before .before in
-    with-one (d .before .before .loop .reach) (d .lowest .result) (c .singleton .result) (d .before .before .loop .inv .0) (d .lowest .ensures .1 .below) (c .singleton .ensures)
+    with-one 64 (d .before .before .loop .reach) (d .lowest .result) (c .singleton .result) (d .before .before .loop .inv .0) (d .lowest .ensures .1 .below) (c .singleton .ensures)
 
 more-fits : (c : tie.After-singleton Inv-loop μ-loop) → bitOr (c .before .before .before .before .before .before .before .loop .reach) (c .singleton .result) < 2 ^ 64
 more-fits c = let v = c .before .before .before .before .before .before .before .loop in or-lt 64 (v .reach) (c .singleton .result) (v .inv .0) (c .singleton .ok)
@@ -108,7 +108,7 @@ loop-again c =
       omega (arith, and-le-l (a .stations) ((2 ^ 64 - 1) - w), hs),
       simp length-set (v .inv .2),
       search-found (now (a .fits)) (a .stations) (a .free) (row (now (a .owner))) (row (v .via)) (v .reach) (v .rest) (v .inv .3) s (d .lowest .ensures .1 .member)
-          t w _ _ (b .0) (b .1) (joined c) (λ u. (in-diff (a .stations) w u hs (more-fits c), diff-in (a .stations) w u hs (more-fits c)))
+          t w _ _ (b .0) (b .1) (joined c) (λ u. (in-diff 64 (a .stations) w hs (more-fits c) u, diff-in 64 (a .stations) w hs (more-fits c) u))
           (put-set (v .via) s t (omega (arith, d .lowest .ensures .1 .below, v .inv .2))),
     )
 
@@ -131,7 +131,7 @@ loop-again-2 c =
       omega (arith, and-le-l (v .rest) (v .rest - 1), v .inv .1),
       v .inv .2,
       search-blocked (now (a .fits)) (a .stations) (a .free) (row (now (a .owner))) (row (v .via)) (v .reach) (v .rest) (v .inv .3) s (d .lowest .ensures .1 .member)
-          _ (without-least (v .rest) s (omega (arith, d .before .loop-test .taken)) (v .inv .1) (d .lowest .ensures .0))
+          _ (without-least 64 (v .rest) s (omega (arith, d .before .loop-test .taken)) (v .inv .1) (d .lowest .ensures .0))
           (λ t. and-none (row (now (a .fits)) (row (now (a .owner)) s)) (v .reach) t (c .if1 .left)),
     )
 
