@@ -75,7 +75,7 @@ module _ (fits : List ℕ) (n stations free reach : ℕ) (via : ℕ → ℕ) (in
       pub path-step : Step fits reach who via (p .rank) s
       path-step = ⊎-elim (λ (f : In free s). absurd (not-both f o)) (λ r. r) (p .step s (p .within) (le-refl (p .rank s)))
 
-      pub path-owned : (who s < n + 1) × (who s ≡ c → ⊥) × (p .to (who s) ≡ s)
+      path-owned : (who s < n + 1) × (who s ≡ c → ⊥) × (p .to (who s) ≡ s)
       path-owned = p .owned s (inside s (p .within)) o
 
     module _ (owner : List ℕ) (is : Put who s c (row owner)) where

@@ -28,7 +28,7 @@ neighbours-of n i t h =
     eq-setOf n (bitOr (row t i) c) (λ j. has (row t i) j || has (row t j) i) (or-lt n (row t i) c h (setOf-lt n (λ j. has (row t j) i)))
     (λ j l. has-or (row t i) c j ∙ ap (λ (b : Bool). has (row t i) j || b) (has-setOf n (λ j. has (row t j) i) j l))
 
-pub linked-word : {n : ℕ} {t nbr : List ℕ} → Linked n t nbr → (i : ℕ) → i < n → row nbr i ≡ setOf n (neighbours t i)
+linked-word : {n : ℕ} {t nbr : List ℕ} → Linked n t nbr → (i : ℕ) → i < n → row nbr i ≡ setOf n (neighbours t i)
 linked-word {n} {t} {nbr} d i l = ap (λ (x : List ℕ). row x i) (d .table) ∙ row-in n (neighbours t) i (d .most) l
 
 -- some station of w leads to j by the relation R

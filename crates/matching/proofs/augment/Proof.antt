@@ -23,6 +23,10 @@ Inv-loop fits owner₀ via n stations free reach first c₀ s₀ rest₀ owner c
 abbrev μ-loop : tie.MeasureT-loop
 μ-loop fits owner₀ via n stations free reach first c₀ s₀ rest₀ owner c s rest = rest
 
+-- a turn's start, from its end
+abbrev top : tie.After-s Inv-loop μ-loop → tie.At-loop Inv-loop μ-loop
+top c = c .before .before .before .before .before
+
 cast-c : tie.Need-cast-c Inv-loop μ-loop
 cast-c c = search needs
 
@@ -66,15 +70,14 @@ cast-s c =
     omega (arith, member-below 64 _ _ (l .before .fits .reach .fits) (s .stays))
 
 less : (c : tie.After-s Inv-loop μ-loop)
-    → Without (c .before .before .before .before .before .loop .rest) (c .before .before .before .before .before .loop .s)
-    (bitAnd (c .before .before .before .before .before .loop .rest) ((2 ^ 64 - 1) - c .before .singleton .result))
+    → let v = top c .loop in Without (v .rest) (v .s) (bitAnd (v .rest) ((2 ^ 64 - 1) - c .before .singleton .result))
 less c =
-    let l = c .before .before .before .before .before in
+    let l = top c in
     without-one 64 (l .loop .rest) (l .loop .s) (c .before .singleton .result) (l .loop .inv .0) (s-below l) (c .before .singleton .ensures)
 
 loop-less : tie.Need-loop-less Inv-loop μ-loop
 loop-less c =
-    let l = c .before .before .before .before .before in
+    let l = top c in
     let p = l .loop .inv .2 in
     fewer (l .loop .rest) (l .loop .s) ((2 ^ 64 - 1) - c .before .singleton .result) (p .ahead (l .loop .s) (p .within) (le-refl (p .rank (l .loop .s)))) (less c)
 

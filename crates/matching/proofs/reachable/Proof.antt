@@ -24,6 +24,13 @@ Inv-loop fits owner stations free via₀ reach₀ rest₀ via reach rest =
 abbrev μ-loop : tie.MeasureT-loop
 μ-loop fits owner stations free via₀ reach₀ rest₀ via reach rest = (2 ^ 64 - reach) * 2 ^ 64 + rest
 
+-- positions in a turn: where the station s is found, from where it joins; and the turn's start
+abbrev chosen : tie.After-singleton Inv-loop μ-loop → tie.After-lowest Inv-loop μ-loop
+chosen c = c .before .before .before .before .before
+
+abbrev top : tie.After-lowest Inv-loop μ-loop → tie.At-loop Inv-loop μ-loop
+top d = d .before .before
+
 loop-holds : tie.Need-loop-holds Inv-loop μ-loop
 loop-holds c =
     let a = c .args in (
@@ -44,12 +51,12 @@ element-copy-out-hit : tie.Need-element-copy-out-hit Inv-loop μ-loop
 element-copy-out-hit c = search needs
 
 -- the component at s, which is not free, is below 64
-c-below : (c : tie.After-lowest Inv-loop μ-loop) → row (now (c .before .before .before .args .owner)) (c .lowest .result) < 64
+c-below : (c : tie.After-lowest Inv-loop μ-loop) → row (now (top c .before .args .owner)) (c .lowest .result) < 64
 c-below c =
-    let q = c .before .before .loop .inv .3 in
+    let q = top c .loop .inv .3 in
     let s = c .lowest .result in
     let o = q .fresh s (c .lowest .ensures .1 .member) in
-    c .before .before .before .pre .2 s (o .0) (is-false _ (λ f. not-both (q .forest .start s f) (o .1)))
+    top c .before .pre .2 s (o .0) (is-false _ (λ f. not-both (q .forest .start s f) (o .1)))
 
 cast-hit : tie.Need-cast-hit Inv-loop μ-loop
 cast-hit c = omega (arith, c-below (c .before))
@@ -74,19 +81,18 @@ singleton-requires c κs = search needs
 
 -- s joins
 joined : (c : tie.After-singleton Inv-loop μ-loop)
-    → With (c .before .before .before .before .before .before .before .loop .reach) (c .before .before .before .before .before .lowest .result)
-    (bitOr (c .before .before .before .before .before .before .before .loop .reach) (c .singleton .result))
+    → let v = top (chosen c) .loop in With (v .reach) (chosen c .lowest .result) (bitOr (v .reach) (c .singleton .result))
 joined c =
-    let d = c .before .before .before .before .before in
-    with-one 64 (d .before .before .loop .reach) (d .lowest .result) (c .singleton .result) (d .before .before .loop .inv .0) (d .lowest .ensures .1 .below) (c .singleton .ensures)
+    let d = chosen c in
+    with-one 64 (top d .loop .reach) (d .lowest .result) (c .singleton .result) (top d .loop .inv .0) (d .lowest .ensures .1 .below) (c .singleton .ensures)
 
-more-fits : (c : tie.After-singleton Inv-loop μ-loop) → bitOr (c .before .before .before .before .before .before .before .loop .reach) (c .singleton .result) < 2 ^ 64
-more-fits c = let v = c .before .before .before .before .before .before .before .loop in or-lt 64 (v .reach) (c .singleton .result) (v .inv .0) (c .singleton .ok)
+more-fits : (c : tie.After-singleton Inv-loop μ-loop) → bitOr (top (chosen c) .loop .reach) (c .singleton .result) < 2 ^ 64
+more-fits c = let v = top (chosen c) .loop in or-lt 64 (v .reach) (c .singleton .result) (v .inv .0) (c .singleton .ok)
 
 loop-less : tie.Need-loop-less Inv-loop μ-loop
 loop-less c =
-    let d = c .before .before .before .before .before in
-    let l = d .before .before in
+    let d = chosen c in
+    let l = top d in
     let a = l .before .args in
     let w = bitOr (l .loop .reach) (c .singleton .result) in
     let up : l .loop .reach < w = joined c .more (l .loop .inv .3 .fresh (d .lowest .result) (d .lowest .ensures .1 .member) .1) in
@@ -95,8 +101,8 @@ loop-less c =
 
 loop-again : tie.Need-loop-again Inv-loop μ-loop
 loop-again c =
-    let d = c .before .before .before .before .before in
-    let l = d .before .before in
+    let d = chosen c in
+    let l = top d in
     let v = l .loop in
     let a = l .before .args in
     let s = d .lowest .result in
@@ -117,13 +123,14 @@ sub-rest c = search needs
 
 loop-less-2 : tie.Need-loop-less-2 Inv-loop μ-loop
 loop-less-2 c =
-    let r = c .before .before .before .before .before .loop .rest in
-    omega (arith, and-le-r r (r - 1), c .before .before .before .before .loop-test .taken)
+    let d = c .before .before .before in
+    let r = top d .loop .rest in
+    omega (arith, and-le-r r (r - 1), d .before .loop-test .taken)
 
 loop-again-2 : tie.Need-loop-again-2 Inv-loop μ-loop
 loop-again-2 c =
     let d = c .before .before .before in
-    let l = d .before .before in
+    let l = top d in
     let v = l .loop in
     let a = l .before .args in
     let s = d .lowest .result in (
