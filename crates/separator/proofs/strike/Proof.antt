@@ -6,15 +6,14 @@ use mathlib.Core.List.{List}
 use Prim.Native.Nat.{ℕ}
 use native.Mathlib.Omega.{arith}
 use lib.ListN.{length}
-use lib.Pow.{pow-mono}
-use native.Mathlib.Nat.{lt-of-lt-of-le}
+use Rattle.bitset.proofs.SetLaws.{diff-setOf}
+use Rattle.bitset.proofs.MachineLaws.{wide, full-without}
 use Rattle.bitset.proofs.UptoLaws.{length-upto}
 use Rattle.circuit.specs.Legs.{col}
 use Rattle.circuit.proofs.StateLaws.{stray-row}
 use Rattle.separator.specs.Components.{components}
 use Rattle.separator.specs.inner.Reach.{Listed}
 use Rattle.separator.specs.inner.Spares.{SparesOf, Cut}
-use Rattle.separator.proofs.WidthLaws.{outside-of}
 use Rattle.separator.proofs.PartLaws.{components-most}
 use Rattle.separator.proofs.CutLaws.{cut-cols}
 use Rattle.separator.proofs.ExactLaws.{level-none, level-leaves}
@@ -47,9 +46,10 @@ listed : (c : tie.After-components-of)
 listed c =
     let p = start (near c) .pre in
     let a = start (near c) .args in
-    let fits = lt-of-lt-of-le (p .1) (pow-mono (p .0)) in
+    let fits = wide (p .0) (p .1) in
+    let all = c .before .full .result in
     c .components-of .ensures (a .n) (now (a .rows)) (a .s) (record { most = p .0; table = near c .neighbours .ensures })
-    (outside-of (a .n) (c .before .full .result) (a .s) (p .0) (c .before .full .ensures) fits)
+    (full-without (p .0) (a .s) all _ (c .before .full .ensures) (diff-setOf 64 all (a .s) (c .before .full .ok) fits))
 
 -- what the marks and the matchings say of the level
 spares : (c : tie.After-spare-stations) → let a = entry c .args in SparesOf (a .n) (now (a .rows)) (a .s) (c .spare-stations .result)
