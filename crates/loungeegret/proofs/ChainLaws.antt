@@ -21,7 +21,7 @@ use Rattle.sheet.specs.Open.{Got, got, fault, readPage, refused, opened, openCa
 use Rattle.filter.specs.declared.hand.Called.{Called}
 use Rattle.filter.specs.declared.cycle.Ran.{Ran}
 use Rattle.filter.specs.Calls.{handCall, runCall}
-use Rattle.filter.specs.Leads.{All}
+use Rattle.circuit.specs.Round.{All}
 use Rattle.filter.proofs.CallLaws.{handCall-leads, runCall-leads}
 use Rattle.demands.specs.Sequence.{Call, calling, running, checking, reporting, handed, afterAll}
 use Rattle.demands.specs.Demands.{Refusal}

@@ -29,11 +29,6 @@ limited n limit s t = cond (leb (size n s) limit) (level n t s) (leaves t)
 abbrev pub LevelsBelow : ℕ → ℕ → List ℕ → Type 0
 LevelsBelow n count level = (k : ℕ) → k < count → getD level k 0 < 2 ^ n
 
--- the verdict v, and the rows that it leaves with their columns
-pub record TableTaken (n : ℕ) (v : Verdict) (none : Bool) (rows cols : List ℕ) : Type 0 where
-  pub verdict : v ≡ record { none = none; left = rows }
-  pub table : Columned n rows cols
-
 -- where a step with a verdict takes the run: place, mark and end of the state after it
 abbrev pub Advanced : ℕ → Cursor → Bool → ℕ → Cursor → Type 0
 Advanced n at none removed r =
