@@ -10,8 +10,9 @@ use lib.ListN.{length}
 use borrow.Author.Tests.{eq-eqb, ne-eqb}
 use Rattle.bitset.proofs.BoolLaws.{cases, cond-true, cond-false, cond-elim}
 use Rattle.writer.specs.Text.{ascii, decimal}
+use Rattle.writer.specs.Lent.{short, written}
 use Rattle.writer.specs.inner.Writer.{Wrote}
-use Rattle.writer.proofs.LentLaws.{is-short, has-room, written-short, written-room}
+use Rattle.writer.proofs.LentLaws.{is-short, has-room, room, written-short, written-room, written-length}
 use Rattle.circuit.specs.declared.state.Work.{Work}
 use Rattle.circuit.specs.declared.card.Answer.the-variants.{Taken}
 use Rattle.sheet.specs.declared.Opened.{Opened}
@@ -42,6 +43,13 @@ module _ (text d : List ℕ) where
   pub taken : (e : List ℕ) (r : ℕ) → length text ≤ length d → Wrote text d e r → Prints text d e (record { answer = card 0; len = r })
   unfolding printed
   taken e r l h = record { result = rw (has-room text d l, h .count); bytes = h .bytes ∙ sym (written-room text d l) }
+
+  -- what was printed lies within the buffer
+  pub printed-within : printed text d .len ≤ length (written text d)
+  unfolding printed
+  printed-within =
+      cond-elim (λ (r : Printed). r .len ≤ length (written text d)) (short text d) (record { answer = card 10; len = 0 }) (record { answer = card 0; len = length text }) (λ _. zero-le)
+      (λ e. omega (arith, written-length text d, room text d e))
 
 -- ---- the text
 
