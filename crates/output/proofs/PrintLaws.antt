@@ -10,14 +10,16 @@ use lib.ListN.{length}
 use borrow.Author.Tests.{eq-eqb, ne-eqb}
 use Rattle.bitset.proofs.BoolLaws.{cases, cond-true, cond-false, cond-elim}
 use Rattle.writer.specs.Text.{ascii, decimal}
+use Rattle.writer.specs.Lent.{short, written}
 use Rattle.writer.specs.inner.Writer.{Wrote}
-use Rattle.writer.proofs.LentLaws.{is-short, has-room, written-short, written-room}
+use Rattle.writer.proofs.LentLaws.{is-short, has-room, room, written-short, written-room, written-length}
 use Rattle.circuit.specs.declared.state.Work.{Work}
 use Rattle.circuit.specs.declared.card.Answer.the-variants.{Taken}
 use Rattle.sheet.specs.declared.Opened.{Opened}
 use Rattle.filter.specs.declared.cycle.Ran.{Ran}
 use Rattle.output.specs.declared.Printed.{Printed}
 use Rattle.circuit.specs.Card.{number, card, word}
+use Rattle.circuit.specs.Round.{All}
 use Rattle.circuit.specs.State.{isNone, rowsOf, Good}
 use Rattle.circuit.proofs.CardLaws.{number-one}
 use Rattle.sheet.specs.Open.{openCall}
@@ -43,6 +45,13 @@ module _ (text d : List ℕ) where
   unfolding printed
   taken e r l h = record { result = rw (has-room text d l, h .count); bytes = h .bytes ∙ sym (written-room text d l) }
 
+  -- what was printed lies within the buffer
+  pub printed-within : printed text d .len ≤ length (written text d)
+  unfolding printed
+  printed-within =
+      cond-elim (λ (r : Printed). r .len ≤ length (written text d)) (short text d) (record { answer = card 10; len = 0 }) (record { answer = card 0; len = length text }) (λ _. zero-le)
+      (λ e. omega (arith, written-length text d, room text d e))
+
 -- ---- the text
 
 regroup : (x a b c : List ℕ) → x ++ (a ++ b ++ c) ≡ x ++ a ++ b ++ c
@@ -62,7 +71,7 @@ shown-lines w = ⊎-elim (λ (e : isNone (w .end) ≡ true). rw e) (λ (e : isNo
 pub shown-most : (w : Work) (budget : ℕ) → Good w → shown (runCall w budget .work) ≤ 64
 shown-most w budget g =
     let v : Work = runCall w budget .work in
-    let same : v .n ≡ w .n = runCall-leads w budget .stations in
+    let same : v .n ≡ w .n = runCall-leads All w budget .stations in
     cond-elim (λ (k : ℕ). k ≤ 64) (isNone (v .end)) 0 (v .n) (λ _. zero-le) (λ _. omega (arith, g .most))
 
 -- the text of an opened state that has run

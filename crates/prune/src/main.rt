@@ -1,99 +1,82 @@
-// Reads a sheet from standard input, opens it with limit 64, runs with budget 300,000, and prints what is left.
-use circuit::Answer;
-use circuit::End;
-use circuit::Work;
-use filter::Ran;
+// Reads a sheet from standard input and prints the program's text.
+use libc::STDERR_FILENO;
 use libc::STDIN_FILENO;
 use libc::STDOUT_FILENO;
+ghost use Prim.Native.Nat.{_≤_};
+ghost use lib.ListN.{length};
 
-// Any sheet of more than 1,153 bytes is refused at one of the first 1,154.
+// The first 1,154 bytes decide the text (`first-bytes-print`).
 const SHEET: usize = 1154;
 
-const LIMIT: usize = 64;
+// No text is longer (`program-most`).
+const TEXT: usize = 11835;
 
-const BUDGET: u32 = 300000;
-
-// The station lines of 64 stations with all legs have 11,776 bytes.
-const LINES: usize = 12288;
-
-fn print(text: &[u8]) {
-    io::write_all(STDOUT_FILENO, text);
+// What reading brought: so many bytes; whether to read on; whether it failed.
+struct Got {
+    len: usize,
+    more: bool,
+    failed: bool,
 }
 
-fn print_number(x: usize) {
-    io::print_decimal(STDOUT_FILENO, x as u64);
-}
-
-fn print_count(x: u32) {
-    io::print_decimal(STDOUT_FILENO, x as u64);
-}
-
-fn print_end(end: End) {
-    match end {
-        End::Open => print(b"open\n"),
-        End::Stable => print(b"stable\n"),
-        End::None => print(b"none\n"),
+// One read. A call that was interrupted is tried again.
+fn read_some(rest: &mut [u8]) -> Got
+    ensures { λ r. ⌜ r .len ≤ length (now (rest .entry)) ⌝ }
+{
+    let got = libc::read(STDIN_FILENO, rest);
+    if got < 0 {
+        let again = os::errno() == libc::EINTR;
+        return Got {
+            len: 0,
+            more: again,
+            failed: !again,
+        };
+    }
+    let len = io::count(got, rest);
+    Got {
+        len,
+        more: 0 < len,
+        failed: false,
     }
 }
 
-fn print_refusal(answer: Answer, at: usize) {
-    print(b"refused ");
-    print_count(answer.number());
-    print(b" at ");
-    print_number(at);
-    print(b"\n");
-}
-
-// The station lines, by way of a buffer.
-fn print_lines(work: Work, buf: &mut [u8]) {
-    let reported = report::report(work, buf);
-    let len = reported.len;
-    print(&buf[..len]);
-}
-
-// Line 1: stations and legs as opened.
-fn print_opened(work: Work) {
-    print(b"stations ");
-    print_number(work.n);
-    print(b" legs ");
-    let table = work.table;
-    let rows = table.rows;
-    print_count(circuit::legs(&rows));
-    print(b"\n");
-}
-
-// Line 2: steps, legs removed, end.
-fn print_run(ran: Ran) {
-    print(b"steps ");
-    print_count(ran.steps);
-    print(b" removed ");
-    print_count(ran.removed);
-    print(b" end ");
-    let work = ran.work;
-    let end = work.end;
-    print_end(end);
-}
-
-fn prune(work: Work) {
-    print_opened(work);
-    let ran = filter::run(work, BUDGET);
-    print_run(ran);
-    let left = ran.work;
-    let end = left.end;
-    if !end.is_none() {
-        let mut buf = [0u8; LINES];
-        print_lines(left, &mut buf);
+// Reads until the input ends, the buffer is full or a read fails. A proved loop has to end, and nothing says that the input does, so
+// the turns are counted down from a number that no run uses up.
+fn read_sheet(buf: &mut [u8]) -> Got
+    ensures { λ r. ⌜ r .len ≤ length (now (buf .exit)) ⌝ }
+{
+    let mut len = 0usize;
+    let mut turns = u64::MAX;
+    while turns > 0 && len < buf.len() {
+        let got = read_some(&mut buf[len..]);
+        len += got.len;
+        if !got.more {
+            return Got {
+                len,
+                more: false,
+                failed: got.failed,
+            };
+        }
+        turns -= 1;
+    }
+    Got {
+        len,
+        more: false,
+        failed: false,
     }
 }
 
 fn main() {
-    let mut bytes = [0u8; SHEET];
-    let n = io::read_full(STDIN_FILENO, &mut bytes);
-    let opened = sheet::open(&bytes[..n], LIMIT);
-    let answer = opened.answer;
-    let work = opened.work;
-    match answer {
-        Answer::Taken => prune(work),
-        _ => print_refusal(answer, opened.at),
+    let mut sheet = [0u8; SHEET];
+    let read = read_sheet(&mut sheet);
+    if read.failed {
+        io::write_all(STDERR_FILENO, b"prune: cannot read standard input\n");
+        return;
+    }
+    let len = read.len;
+    let mut text = [0u8; TEXT];
+    let printed = output::print(&sheet[..len], &mut text);
+    let len = printed.len;
+    if !io::write_all(STDOUT_FILENO, &text[..len]) {
+        io::write_all(STDERR_FILENO, b"prune: cannot write standard output\n");
     }
 }

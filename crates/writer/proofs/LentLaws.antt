@@ -18,6 +18,10 @@ module _ (text buffer : List ℕ) where
   unfolding short
   has-room l = le-ltb (length buffer) (length text) l
 
+  pub room : short text buffer ≡ false → length text ≤ length buffer
+  unfolding short
+  room e = ltb-false (length buffer) (length text) e
+
   pub written-short : length buffer < length text → written text buffer ≡ buffer
   unfolding written
   written-short l = cond-true buffer _ (is-short l)
@@ -27,7 +31,7 @@ module _ (text buffer : List ℕ) where
   written-room l = cond-false buffer (text ++ drop (length text) buffer) (has-room l)
 
   pub written-length : length (written text buffer) ≡ length buffer
-  unfolding written short
+  unfolding written
   written-length =
       cond-elim (λ (l : List ℕ). length l ≡ length buffer) (short text buffer) buffer (text ++ drop (length text) buffer) (λ _. refl)
-      (λ e. omega (arith, length-append text (drop (length text) buffer), length-drop (length text) buffer, ltb-false (length buffer) (length text) e))
+      (λ e. omega (arith, length-append text (drop (length text) buffer), length-drop (length text) buffer, room e))
