@@ -12,7 +12,6 @@ use Rattle.bitset.specs.Sets.{size}
 use Rattle.bitset.proofs.BoolLaws.{cases, cond-true, cond-false}
 use Rattle.bitset.proofs.OnesLaws.{size-ones}
 use Rattle.circuit.specs.declared.verdict.Verdict.{Verdict}
-use Rattle.circuit.specs.State.{stray}
 use Rattle.circuit.specs.Verdict.{leaves}
 use Rattle.separator.specs.Levels.{inner}
 use Rattle.separator.specs.Level.{level}

@@ -9,7 +9,6 @@ use Rattle.bitset.specs.Sets.{size}
 use Rattle.circuit.specs.declared.state.Work.{Work}
 use Rattle.circuit.specs.declared.verdict.Verdict.{Verdict}
 use Rattle.circuit.specs.Legs.{Subtable}
-use Rattle.circuit.specs.inner.Tables.{Columned}
 use Rattle.circuit.specs.State.{rowsOf, moved, stray}
 use Rattle.circuit.specs.Verdict.{leaves}
 use Rattle.separator.specs.Level.{level}

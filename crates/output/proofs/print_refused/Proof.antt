@@ -5,7 +5,7 @@ use Rattle.output.proofs.PrintLaws.{prints-as}
 use mathlib.Core.Path.{sym, ap, _∙_}
 use mathlib.Core.List.{append-nil}
 use native.Mathlib.Omega.{arith}
-use lib.ListN.{length, take}
+use lib.ListN.{length}
 use Rattle.writer.proofs.WriterLaws.{wrote-front}
 use Rattle.output.proofs.print_refused.Statement.{statement}
 use Rattle.output.proofs.print_refused.Tie as tie

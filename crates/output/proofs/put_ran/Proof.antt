@@ -1,11 +1,9 @@
 -- `output::put_ran` meets its contract. Assumes nothing.
 use borrow.Author.Needs.{needs}
 use Rattle.output.proofs.PrintLaws.{ran-line}
-use mathlib.Core.List.{append-assoc}
 use native.Mathlib.Omega.{arith}
 use Rattle.writer.proofs.NumberLaws.{decimal-length}
 use Rattle.writer.proofs.WriterLaws.{wrote-as, wrote-then}
-use Rattle.output.specs.Program.{ranLine}
 use Rattle.output.proofs.put_ran.Statement.{statement}
 use Rattle.output.proofs.put_ran.Tie as tie
 
