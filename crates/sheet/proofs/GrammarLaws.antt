@@ -14,12 +14,12 @@ use Rattle.circuit.specs.State.{Good}
 use Rattle.circuit.proofs.StateLaws.{inside, not-outside, stray-tableOf}
 use Rattle.sheet.specs.Layout.{Entry, Page, entriesBytes, bytesOf, Each, Bytes, EntryFits, WellFormed, allows, fixes, entryAt, given}
 use Rattle.sheet.specs.Open.{Got, got, fault, readPage, refused, openedPage, opened, openCall, TakenSheet}
-use Rattle.sheet.proofs.ByteLaws.{entries-size, entries-bytes}
-use Rattle.sheet.proofs.ReadLaws.{read-entries, read-page}
-use Rattle.sheet.proofs.TakenLaws.{Sure, IsPage, page-sure}
 use Rattle.sheet.proofs.ReaderLaws.{record-unknown}
 use Rattle.sheet.proofs.RecordsLaws.{read-fault}
 use Rattle.sheet.proofs.OpenLaws.{open-rest}
+use Rattle.sheet.proofs.ReadLaws.{read-entries, read-page}
+use Rattle.sheet.proofs.ByteLaws.{entries-size, entries-bytes}
+use Rattle.sheet.proofs.TakenLaws.{Sure, IsPage, page-sure}
 
 -- The bytes of a well-formed page are taken under a good limit, and the table is exactly that of the leg rule.
 pub sheet-taken : (p : Page) (limit : ℕ) → WellFormed p → 1 ≤ limit → limit ≤ 64 → openCall (bytesOf p) limit ≡ openedPage p limit

@@ -125,7 +125,7 @@ cast-map c = omega (arith, c .shared-slice-known2 .given 0)
 returns-2 : tie.Need-returns-2
 returns-2 c =
     let e = has-map (c .before) in
-    record-unknown (start e .args .n) (start e .args .part .now) (e .if1 .left) (c .if2 .taken)
+    record-unknown (start e .args .n) (start e .args .part .now) (e .if1 .left) (omega (arith, c .if2 .taken))
 
 contains-requires : tie.Need-contains-requires
 contains-requires c κs = search needs
