@@ -10,7 +10,7 @@ use lib.Dec.{eqb}
 use lib.Pow.{pow-mono, pow-pos}
 use lib.Bits.{bitAnd, bitOr, and-le-l}
 use lib.Count.{trailingZeros}
-use lib.ListN.{getD, length, set, length-set}
+use lib.ListN.{length, set, length-set}
 use lib.Seq.{ext-getD, getD-set-same, getD-set-other}
 use borrow.Author.Tests.{eqb-true, eqb-false, not-true}
 use Rattle.bitset.specs.Sets.{has, setOf}
@@ -71,12 +71,12 @@ pub record Cutting (s out into : ℕ) (before : List ℕ) (rest : ℕ) (now : Li
   pub rest-fits : rest < 2 ^ 64
   pub within : (k : ℕ) → has rest k ≡ true → has s k ≡ true
   pub size : length now ≡ 64
-  pub word : (k : ℕ) → k < 64 → getD now k 0 ≡ cond (has rest k) (getD before k 0) (cutRow s out into k (getD before k 0))
+  pub word : (k : ℕ) → k < 64 → row now k ≡ cond (has rest k) (row before k) (cutRow s out into k (row before k))
 
 module _ (s out into : ℕ) (before : List ℕ) where
   -- word k, cut unless it is still to come
   wordOf : ℕ → Bool → ℕ
-  wordOf k b = cond b (getD before k 0) (cutRow s out into k (getD before k 0))
+  wordOf k b = cond b (row before k) (cutRow s out into k (row before k))
 
   pub cutting-start : s < 2 ^ 64 → length before ≡ 64 → Cutting s out into before s before
   unfolding cutRow
@@ -86,12 +86,12 @@ module _ (s out into : ℕ) (before : List ℕ) where
         within = λ k e. e;
         size = len;
         word = λ k l.
-            let w : ℕ = getD before k 0 in
+            let w : ℕ = row before k in
             cond-elim (λ v. w ≡ v) (has s k) w (cutRow s out into k w) (λ e. refl) (λ e. sym (cond-false _ w e));
       }
 
   pub cutting-turn : {rest : ℕ} {now : List ℕ} (w : ℕ) → Cutting s out into before rest now → 0 < rest
-      → w ≡ cutRow s out into (trailingZeros 64 rest) (getD now (trailingZeros 64 rest) 0)
+      → w ≡ cutRow s out into (trailingZeros 64 rest) (row now (trailingZeros 64 rest))
       → Cutting s out into before (bitAnd rest (rest - 1)) (set now (trailingZeros 64 rest) w)
   unfolding wordOf
   cutting-turn {rest} {now} w C p e =
@@ -108,14 +108,14 @@ module _ (s out into : ℕ) (before : List ℕ) where
       least : (i < 64) × (has rest i ≡ true)
       least = let r = trailing-least 64 rest p (C .rest-fits) in (r .below, r .member)
 
-      here : (k : ℕ) → k < 64 → eqb k i ≡ true → getD (set now i w) k 0 ≡ wordOf k (has (bitAnd rest (rest - 1)) k)
+      here : (k : ℕ) → k < 64 → eqb k i ≡ true → row (set now i w) k ≡ wordOf k (has (bitAnd rest (rest - 1)) k)
       here k l q =
-          ap (λ (n : ℕ). getD (set now i w) n 0) (eqb-true k i q) ∙ getD-set-same now i w 0 (omega (arith, C .size, least .0)) ∙ e
+          ap (λ (n : ℕ). row (set now i w) n) (eqb-true k i q) ∙ getD-set-same now i w 0 (omega (arith, C .size, least .0)) ∙ e
           ∙ ap (cutRow s out into i) (C .word i (least .0) ∙ ap (wordOf i) (least .1))
           ∙ ap (λ (n : ℕ). wordOf n false) (sym (eqb-true k i q))
           ∙ ap (wordOf k) (sym (has-clear 64 rest k p (C .rest-fits) ∙ ap (λ (b : Bool). has rest k && not b) q ∙ and-false (has rest k)))
 
-      other : (k : ℕ) → k < 64 → eqb k i ≡ false → getD (set now i w) k 0 ≡ wordOf k (has (bitAnd rest (rest - 1)) k)
+      other : (k : ℕ) → k < 64 → eqb k i ≡ false → row (set now i w) k ≡ wordOf k (has (bitAnd rest (rest - 1)) k)
       other k l q =
           getD-set-other now i k w 0 (eqb-false k i q) ∙ C .word k l
           ∙ ap (wordOf k) (sym (has-clear 64 rest k p (C .rest-fits) ∙ ap (λ (b : Bool). has rest k && not b) q ∙ and-true (has rest k)))
@@ -130,7 +130,7 @@ module _ (s out into : ℕ) (before : List ℕ) where
 -- a leg of the table that is left
 cut-leg : {s out into : ℕ} {t u : List ℕ} → Cut s out into t u → (i j : ℕ) → i < 64 → j < 64 → leg u i j ≡ leg t i j && not (cuts s out into i j)
 unfolding leg
-cut-leg {s} {out} {into} {t} {u} C i j li lj = ap (λ (w : ℕ). has w j) (C .word i li) ∙ cut-has s out into i (getD t i 0) j lj
+cut-leg {s} {out} {into} {t} {u} C i j li lj = ap (λ (w : ℕ). has w j) (C .word i li) ∙ cut-has s out into i (row t i) j lj
 
 module _ (n : ℕ) (t : List ℕ) (most : n ≤ 64) (clean : stray n t ≡ false) where
   -- where the cut takes just the legs that go, it leaves the table without them
@@ -139,8 +139,8 @@ module _ (n : ℕ) (t : List ℕ) (most : n ≤ 64) (clean : stray n t ≡ false
   cut-rows {s} {out} {into} {u} goes C same =
       ext-getD 0 u (without n t goes) (C .size ∙ sym size) (λ i l.
       let li : i < 64 = omega (arith, C .size) in
-      ext 64 (getD u i 0) (getD (without n t goes) i 0)
-      (subst (λ (w : ℕ). w < 2 ^ 64) (sym (C .word i li)) (cut-lt s out into i (getD t i 0) (row-fits n t most clean i li)))
+      ext 64 (row u i) (row (without n t goes) i)
+      (subst (λ (w : ℕ). w < 2 ^ 64) (sym (C .word i li)) (cut-lt s out into i (row t i) (row-fits n t most clean i li)))
       (left-fits i) (λ j lj. unfold leg in (legs i j li lj)))
     where
       stays : ℕ → ℕ → Bool

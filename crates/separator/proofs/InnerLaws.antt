@@ -6,9 +6,10 @@ use native.Mathlib.Nat.{not-suc-le-zero, le-of-suc-le-suc}
 use native.Mathlib.Numerals.{add-one}
 use native.Mathlib.Omega.{arith}
 use lib.Dec.{eqb}
-use lib.ListN.{length, getD, take, drop-of-length-le, length-take}
+use lib.ListN.{length, take, drop-of-length-le, length-take}
 use lib.Pow.{pow-pos, pow-lt}
 use lib.Seq.{slice, slice-cons, getD-take}
+use Rattle.bitset.specs.Upto.{row}
 use Rattle.bitset.specs.Sets.{minus, join}
 use Rattle.bitset.proofs.BoolLaws.{cond-elim}
 use Rattle.bitset.proofs.SetLaws.{setOf-lt}
@@ -16,11 +17,11 @@ use Rattle.separator.specs.Levels.{neighbourhood, levelsFrom, levels, fr
 
 -- ---- each level is a set of the n stations
 
-from-below : (f n : ℕ) (t : List ℕ) (seen last c : ℕ) → last < 2 ^ n → getD (levelsFrom f n t seen last) c 0 < 2 ^ n
+from-below : (f n : ℕ) (t : List ℕ) (seen last c : ℕ) → last < 2 ^ n → row (levelsFrom f n t seen last) c < 2 ^ n
 unfolding levelsFrom minus
 from-below zero n t seen last c h = pow-pos n
 from-below (suc f) n t seen last c h =
-    cond-elim (λ (ls : List ℕ). getD ls c 0 < 2 ^ n) (eqb last 0) [] (last ∷ more) (λ _. pow-pos n)
+    cond-elim (λ (ls : List ℕ). row ls c < 2 ^ n) (eqb last 0) [] (last ∷ more) (λ _. pow-pos n)
     (λ _. at c (λ d. from-below f n t (join n seen next) next d (setOf-lt n _)))
   where
     next : ℕ
@@ -29,16 +30,16 @@ from-below (suc f) n t seen last c h =
     more : List ℕ
     more = levelsFrom f n t (join n seen next) next
 
-    at : (d : ℕ) → ((e : ℕ) → getD more e 0 < 2 ^ n) → getD (last ∷ more) d 0 < 2 ^ n
+    at : (d : ℕ) → ((e : ℕ) → row more e < 2 ^ n) → row (last ∷ more) d < 2 ^ n
     at zero rest = h
     at (suc d) rest = rest d
 
 -- so each word of the array is
 pub level-below : (n : ℕ) (t : List ℕ) (seed count : ℕ) (level : List ℕ) → take count level ≡ levels n t seed → seed < n
-    → (k : ℕ) → k < count → getD level k 0 < 2 ^ n
+    → (k : ℕ) → k < count → row level k < 2 ^ n
 unfolding levels
 level-below n t seed count level e h k l =
-    subst (λ (w : ℕ). w < 2 ^ n) (ap (λ (ls : List ℕ). getD ls k 0) (sym e) ∙ getD-take count level k 0 l)
+    subst (λ (w : ℕ). w < 2 ^ n) (ap (λ (ls : List ℕ). row ls k) (sym e) ∙ getD-take count level k 0 l)
     (from-below n n t (2 ^ seed) (2 ^ seed) k (pow-lt h))
 
 -- ---- levels 1 to m - 1, from level k on
@@ -66,10 +67,10 @@ inner-start (suc (suc m)) (x ∷ xs) h =
 
 -- level k, and those after it
 pub inner-step : (k count : ℕ) (level : List ℕ) → k + 1 < count → count ≤ length level
-    → innerFrom k count level ≡ getD level k 0 ∷ innerFrom (k + 1) count level
+    → innerFrom k count level ≡ row level k ∷ innerFrom (k + 1) count level
 unfolding innerFrom
 inner-step k count level l h =
-    slice-cons k (count - 1) level 0 (omega arith) (omega arith) ∙ ap (λ (j : ℕ). getD level k 0 ∷ slice j (count - 1) level) (sym (add-one k))
+    slice-cons k (count - 1) level 0 (omega arith) (omega arith) ∙ ap (λ (j : ℕ). row level k ∷ slice j (count - 1) level) (sym (add-one k))
 
 -- none
 pub inner-end : (k count : ℕ) (level : List ℕ) → count ≤ k + 1 → innerFrom k count level ≡ []

@@ -7,8 +7,9 @@ use Prim.Native.Nat.{ℕ, suc, _-_, _^_, _<_}
 use native.Mathlib.Nat.{not-suc-le-zero}
 use native.Mathlib.Omega.{arith}
 use lib.Bits.{bitAnd, bitOr, or-lt}
-use lib.ListN.{getD, length, set, length-set}
+use lib.ListN.{length, set, length-set}
 use lib.Seq.{getD-set-same, getD-set-other}
+use Rattle.bitset.specs.Upto.{row}
 use Rattle.bitset.specs.Sets.{has, setOf, any}
 use Rattle.bitset.proofs.BoolLaws.{not-both}
 use Rattle.bitset.proofs.HasLaws.{has-or}
@@ -45,11 +46,11 @@ module _ (may : ℕ → ℕ → ℕ → Bool) where
       any-before : ℕ → Bool
       any-before x = any (suc c) (λ m. bears m x)
 
-      component : (b : ℕ) → b < suc c → getD (set fits c w) b 0 ≡ setOf 64 (bears (suc b))
+      component : (b : ℕ) → b < suc c → row (set fits c w) b ≡ setOf 64 (bears (suc b))
       component b lb =
           ⊎-elim
           (λ (z : b ≡ c).
-          ap (λ (n : ℕ). getD (set fits c w) n 0) z ∙ getD-set-same fits c w 0 (omega (arith, S .size)) ∙ e
+          ap (λ (n : ℕ). row (set fits c w) n) z ∙ getD-set-same fits c w 0 (omega (arith, S .size)) ∙ e
           ∙ ap (λ (n : ℕ). setOf 64 (bears (suc n))) (sym z))
           (λ (g : b < c). getD-set-other fits c b w 0 (λ z. omega arith) ∙ S .component b g)
           (at-or-below lb)

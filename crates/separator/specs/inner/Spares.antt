@@ -31,7 +31,7 @@ pub record EndsOf (on : ℕ → ℕ → Bool) (tails heads : ℕ) : Type 0 where
 -- ---- choices
 
 -- One side, out or in: x may take its pair with y by the mark m.
--- `fits` has for each of the p components the stations that can take it, and `some` has the stations with a mark.
+-- `fits` has for each of the p components the stations that can take it, words beyond these are left open; `some` has the stations with a mark.
 pub record Side (may : ℕ → ℕ → ℕ → Bool) (p : ℕ) (fits : List ℕ) (some : ℕ) : Type 0 where
   pub size : length fits ≡ 64
   pub component : (c : ℕ) → c < p → row fits c ≡ setOf 64 (λ x. any 64 (λ y. may x y (suc c)))
