@@ -6,6 +6,8 @@
  * The caller lends what a call reads and writes, and no call keeps a pointer. A pointer is never null, also where its length is
  * 0, and what it points to is initialised, also where the call only writes it. What a call may write overlaps nothing else that
  * is lent to the same call. While the call runs, nothing else writes what is lent, and nothing else reads what it may write.
+ *
+ * The library has no state of its own: calls on different states may run at the same time, in any threads.
  */
 #ifndef LOUNGEEGRET_H
 #define LOUNGEEGRET_H
@@ -66,6 +68,9 @@ enum {
  * Opens a sheet with a separator limit. The state is written in each case, a refused opening writes the blank one: no stations, no
  * legs, limit 0, place 0, mark clear, open. `*place` is the place that goes with the number: the sheet's length for 1, the
  * offending byte for 2, 3 and 5, the field's first byte for 4, otherwise 0.
+ *
+ * Which limit: a pass skips the separators that have more stations than the limit. 64 skips none, filters most and is the
+ * program's; a smaller limit is cheaper and strikes less. Under every limit only legs that no round can drive are struck.
  */
 uint32_t loungeegret_open(const uint8_t *sheet, size_t sheet_length, size_t limit,
                           uint64_t *state, size_t state_length, size_t *place);
@@ -78,7 +83,10 @@ uint32_t loungeegret_pass(uint64_t *state, size_t state_length, size_t seed, uin
 
 /*
  * A run of at most `budget` steps. `*steps` is the number of steps that it took and `*removed` the number of legs that it removed,
- * both 0 where it is refused.
+ * both 0 where it is refused. How it ended is in state[LOUNGEEGRET_END].
+ *
+ * Which budget: 300000 is the program's and is meant to be enough for 64 stations. With a smaller one a run goes in short turns:
+ * where the end is still LOUNGEEGRET_OPEN the budget is used up, and the same call again goes on from there.
  */
 uint32_t loungeegret_run(uint64_t *state, size_t state_length, uint32_t budget,
                          uint32_t *steps, uint32_t *removed);
@@ -92,7 +100,8 @@ uint32_t loungeegret_check_list(const uint64_t *state, size_t state_length,
 
 /*
  * Writes the station lines to the start of the buffer; bytes after them keep their contents. `*length` is their length. A refused
- * report writes nothing to the buffer, and its length is 0.
+ * report writes nothing to the buffer, and its length is 0. Look at state[LOUNGEEGRET_END] first: where it is LOUNGEEGRET_NONE
+ * there is no round, and the lines show the legs that stood when that was found.
  */
 uint32_t loungeegret_report(const uint64_t *state, size_t state_length,
                             uint8_t *buf, size_t buf_length, size_t *length);

@@ -1,9 +1,12 @@
-/* Opens the sheet of nine legs, runs the filter and prints the station lines. */
+/*
+ * Prunes a sheet, the one in the file that is named or else the sheet of nine legs. Prints how the run ended and, unless that is
+ * none, the station lines. The exit status is that of ./prune: 0 pruned, 1 refused, 2 something failed, 3 no round.
+ */
 #include <stdio.h>
 
 #include "loungeegret.h"
 
-static const uint8_t sheet[] = {
+static const uint8_t nine_legs[] = {
     6,
     1, 0x0E, 0, 0, 0, 0, 0, 0, 0,
     1, 0x11, 0, 0, 0, 0, 0, 0, 0,
@@ -13,20 +16,64 @@ static const uint8_t sheet[] = {
     4, 1,
 };
 
-int main(void)
+static const char *const words[] = {"open", "stable", "none"};
+
+static int fail(const char *what)
+{
+    fprintf(stderr, "nine_legs: %s\n", what);
+    return 2;
+}
+
+/* The length of what was read, at most `most` bytes; SIZE_MAX where that failed. */
+static size_t load(const char *name, uint8_t *bytes, size_t most)
+{
+    FILE *file = fopen(name, "rb");
+    if (!file)
+        return SIZE_MAX;
+    size_t length = fread(bytes, 1, most, file);
+    if (ferror(file))
+        length = SIZE_MAX;
+    fclose(file);
+    return length;
+}
+
+static int prune(const uint8_t *sheet, size_t sheet_length)
 {
     uint64_t state[LOUNGEEGRET_STATE_WORDS] = {0};
     uint8_t text[LOUNGEEGRET_TEXT_MOST] = {0};
     size_t place = 0, length = 0;
     uint32_t steps = 0, removed = 0;
 
-    uint32_t number = loungeegret_open(sheet, sizeof sheet, 64, state, LOUNGEEGRET_STATE_WORDS, &place);
+    uint32_t number = loungeegret_open(sheet, sheet_length, 64, state, LOUNGEEGRET_STATE_WORDS, &place);
     if (number != LOUNGEEGRET_TAKEN) {
         printf("refused %u at %zu\n", (unsigned)number, place);
         return 1;
     }
-    loungeegret_run(state, LOUNGEEGRET_STATE_WORDS, 300000, &steps, &removed);
-    loungeegret_report(state, LOUNGEEGRET_STATE_WORDS, text, sizeof text, &length);
+    if (loungeegret_run(state, LOUNGEEGRET_STATE_WORDS, 300000, &steps, &removed) != LOUNGEEGRET_TAKEN)
+        return fail("the run is refused");
+    puts(words[state[LOUNGEEGRET_END]]);
+    if (state[LOUNGEEGRET_END] == LOUNGEEGRET_NONE)
+        return 3;
+    if (loungeegret_report(state, LOUNGEEGRET_STATE_WORDS, text, sizeof text, &length) != LOUNGEEGRET_TAKEN)
+        return fail("the report is refused");
     fwrite(text, 1, length, stdout);
     return 0;
+}
+
+int main(int argc, char **argv)
+{
+    uint8_t bytes[LOUNGEEGRET_SHEET_MOST + 1] = {0}; /* with the byte more that shows an overhang */
+    const uint8_t *sheet = nine_legs;
+    size_t length = sizeof nine_legs;
+
+    if (argc > 1) {
+        sheet = bytes;
+        length = load(argv[1], bytes, sizeof bytes);
+        if (length == SIZE_MAX)
+            return fail("cannot read the sheet");
+    }
+    int status = prune(sheet, length);
+    if (fflush(stdout) || ferror(stdout))
+        return fail("cannot write standard output");
+    return status;
 }

@@ -1,9 +1,12 @@
-//! Opens the sheet of nine legs, runs the filter and prints the station lines.
-use std::io::Write;
+//! Prunes a sheet, the one in the file that is named or else the sheet of nine legs. Prints how the run ended and, unless that is
+//! none, the station lines. The exit status is that of ./prune: 0 pruned, 1 refused, 2 something failed, 3 no round.
+use std::fs::File;
+use std::io::{self, Read, Write};
+use std::process::ExitCode;
 
 // A slice goes as a pointer and a length.
 #[link(name = "loungeegret", kind = "static")]
-extern "C" {
+unsafe extern "C" {
     fn loungeegret_open(
         sheet: *const u8,
         sheet_length: usize,
@@ -28,11 +31,15 @@ extern "C" {
     ) -> u32;
 }
 
+const TAKEN: u32 = 0;
+const END: usize = 68;
 const STATE_WORDS: usize = 69;
+const SHEET_MOST: u64 = 1153;
 const TEXT_MOST: usize = 11776;
+const WORDS: [&str; 3] = ["open", "stable", "none"];
 
 #[rustfmt::skip]
-const SHEET: [u8; 27] = [
+const NINE_LEGS: [u8; 27] = [
     6,
     1, 0x0E, 0, 0, 0, 0, 0, 0, 0,
     1, 0x11, 0, 0, 0, 0, 0, 0, 0,
@@ -42,45 +49,62 @@ const SHEET: [u8; 27] = [
     4, 1,
 ];
 
-fn main() {
-    let mut state = [0u64; STATE_WORDS];
-    let mut text = [0u8; TEXT_MOST];
-    let (mut place, mut length) = (0, 0);
-    let (mut steps, mut removed) = (0, 0);
+fn main() -> ExitCode {
+    match sheet().and_then(|sheet| prune(&sheet, &mut io::stdout())) {
+        Ok(status) => ExitCode::from(status),
+        Err(error) => {
+            eprintln!("nine_legs: {error}");
+            ExitCode::from(2)
+        }
+    }
+}
 
-    // SAFETY: each pointer goes with the length of its own array, and no two arrays overlap.
-    let number = unsafe {
-        loungeegret_open(
-            SHEET.as_ptr(),
-            SHEET.len(),
-            64,
-            state.as_mut_ptr(),
-            state.len(),
-            &mut place,
-        )
+fn sheet() -> io::Result<Vec<u8>> {
+    let Some(name) = std::env::args_os().nth(1) else {
+        return Ok(NINE_LEGS.to_vec());
     };
-    if number != 0 {
-        println!("refused {number} at {place}");
-        std::process::exit(1);
+    let mut bytes = Vec::new();
+    // With the byte more that shows an overhang.
+    File::open(name)?
+        .take(SHEET_MOST + 1)
+        .read_to_end(&mut bytes)?;
+    Ok(bytes)
+}
+
+fn prune(sheet: &[u8], out: &mut impl Write) -> io::Result<u8> {
+    let mut state = [0; STATE_WORDS];
+    let mut text = [0; TEXT_MOST];
+    let (mut place, mut steps, mut removed, mut length) = (0, 0, 0, 0);
+
+    // SAFETY, of each call: a pointer goes with the length of its own array, and no two arrays overlap.
+    let number = unsafe {
+        let (bytes, words) = (sheet.as_ptr(), state.as_mut_ptr());
+        loungeegret_open(bytes, sheet.len(), 64, words, state.len(), &mut place)
+    };
+    if number != TAKEN {
+        writeln!(out, "refused {number} at {place}")?;
+        return Ok(1);
     }
-    // SAFETY: as above.
-    unsafe {
-        loungeegret_run(
-            state.as_mut_ptr(),
-            state.len(),
-            300000,
-            &mut steps,
-            &mut removed,
-        );
-        loungeegret_report(
-            state.as_ptr(),
-            state.len(),
-            text.as_mut_ptr(),
-            text.len(),
-            &mut length,
-        );
+    let number = unsafe {
+        let words = state.as_mut_ptr();
+        loungeegret_run(words, state.len(), 300000, &mut steps, &mut removed)
+    };
+    if number != TAKEN {
+        return Err(io::Error::other("the run is refused"));
     }
-    std::io::stdout()
-        .write_all(&text[..length])
-        .expect("standard output");
+    let end = WORDS[state[END] as usize];
+    writeln!(out, "{end}")?;
+    if end == "none" {
+        return Ok(3);
+    }
+    let number = unsafe {
+        let (words, bytes) = (state.as_ptr(), text.as_mut_ptr());
+        loungeegret_report(words, state.len(), bytes, text.len(), &mut length)
+    };
+    if number != TAKEN {
+        return Err(io::Error::other("the report is refused"));
+    }
+    out.write_all(&text[..length])?;
+    out.flush()?;
+    Ok(0)
 }

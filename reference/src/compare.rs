@@ -12,13 +12,14 @@ use std::panic::{catch_unwind, AssertUnwindSafe};
 
 use self::call::{Answer, Call};
 use self::difference::Step;
-use self::made::{Known, Made};
+use self::made::Known;
 use self::watch::Watch;
 use crate::calls::{Calls, Fast, Plain};
 use crate::gen::Xorshift;
 use crate::state::{End, WorkState};
 
 pub use self::difference::Difference;
+pub use self::made::Made;
 
 type Found<T> = Result<T, Box<Difference>>;
 
@@ -136,7 +137,8 @@ impl Session<'_> {
         Err(self.difference("the sheet was made to open otherwise", answer))
     }
 
-    /// Calls in any order, the whole run and more calls on the ended state.
+    /// Calls in any order, the whole run, and more calls on the ended state:
+    /// some of any kind, then reports into buffers of every length that matters.
     fn sequence(&mut self) -> Found<()> {
         for _ in 0..self.rng.between(4, 9) {
             match self.rng.below(12) {
@@ -149,6 +151,9 @@ impl Session<'_> {
         self.call(Call::Run { budget })?;
         for _ in 0..3 {
             self.any_call()?;
+        }
+        for length in draw::report_lengths(&self.state) {
+            self.call(Call::Report { length })?;
         }
         Ok(())
     }

@@ -1,5 +1,7 @@
 //! Tables and sheets made from a seed, the same ones on every machine.
 
+use std::ops::RangeInclusive;
+
 use crate::card::{self, Number};
 use crate::table::{Leg, LegTable};
 
@@ -150,6 +152,15 @@ pub fn random_round(rng: &mut Xorshift, n: usize) -> Vec<usize> {
         round[station - 1] = order[(at + 1) % n];
     }
     round
+}
+
+/// All lists of n numbers of a range; the first number changes fastest.
+pub fn all_lists(n: usize, numbers: RangeInclusive<u8>) -> impl Iterator<Item = Vec<u8>> {
+    let (low, base) = (*numbers.start(), numbers.count());
+    (0..base.pow(n as u32)).map(move |code| {
+        let digits = (0..n as u32).map(|at| code / base.pow(at) % base);
+        digits.map(|digit| low + digit as u8).collect()
+    })
 }
 
 /// The table with both directions of each given road.
@@ -343,6 +354,18 @@ impl Sheet {
     pub fn plain(n: usize) -> Sheet {
         Sheet {
             records: vec![Record::default(); n],
+        }
+    }
+
+    /// 64 records with every field, fixed to the round 1→2→…→64→1.
+    pub fn longest() -> Sheet {
+        let record = |station: u8| Record {
+            next: Some(u64::MAX),
+            previous: Some(u64::MAX),
+            fixed: Some(station % 64 + 1),
+        };
+        Sheet {
+            records: (1..=64).map(record).collect(),
         }
     }
 

@@ -1,6 +1,5 @@
 -- The code's list check, entries first and then the walk, is the list check. Assumes nothing.
-use mathlib.Core.Path.{_≡_, sym, _∙_}
-use mathlib.Core.Logic.{⊎-elim}
+use mathlib.Core.Path.{_≡_}
 use mathlib.Core.Bool.{Bool, true, false, not}
 use mathlib.Core.List.{List}
 use Prim.Native.Nat.{ℕ, _<_}
@@ -8,14 +7,15 @@ use native.Mathlib.Numerals.{sub-one}
 use native.Mathlib.Omega.{arith}
 use lib.ListN.{getD, length}
 use Rattle.bitset.specs.Sets.{outside}
-use Rattle.bitset.proofs.BoolLaws.{cases, is-false, not-both, and-intro, and-l, and-r}
+use Rattle.bitset.specs.Tests.{Decides}
+use Rattle.bitset.proofs.BoolLaws.{iff, is-false, not-both, and-intro, and-l, and-r}
 use Rattle.bitset.proofs.QuantLaws.{all-intro, all-elim}
 use Rattle.bitset.specs.Upto.{row}
 use Rattle.circuit.specs.Legs.{leg}
-use Rattle.circuit.specs.Check.{isList, choiceOf}
-use Rattle.circuit.specs.inner.Lists.{goodEntry, goodEntries, Numbers, Returns, Decides}
+use Rattle.circuit.specs.Check.{choiceOf, Numbers, ListsRound, isList}
+use Rattle.circuit.specs.inner.Lists.{goodEntry, goodEntries, Returns}
 use Rattle.circuit.proofs.Return.{returning-round, round-returns}
-use Rattle.circuit.proofs.CheckLaws.{ListsRound, numbers-intro, numbers-elim, isList-elim, isList-intro}
+use Rattle.circuit.proofs.CheckLaws.{numbers-intro, numbers-elim, isList-elim, isList-intro}
 
 module _ (n : ℕ) (t s : List ℕ) (len : length s ≡ n) where
   entry : ℕ → Bool
@@ -44,7 +44,6 @@ module _ (n : ℕ) (t s : List ℕ) (len : length s ≡ n) where
     -- good entries: the walk decides
     pub walk-decides : {b : Bool} → Decides b (Returns n (choiceOf s)) → b ≡ isList n t s
     walk-decides {b} d =
-        ⊎-elim
-        (λ q. q ∙ sym (isList-intro n t s (record { numbers = good-numbers; round = returning-round stays good-legs (d .holds q) })))
-        (λ q. q ∙ sym (is-false (isList n t s) (λ y. d .fails q (round-returns (isList-elim n t s len y .round)))))
-        (cases b)
+        iff b (isList n t s)
+        (λ q. isList-intro n t s (record { numbers = good-numbers; round = returning-round stays good-legs (d .holds q) }))
+        (λ y. d .found (round-returns (isList-elim n t s len y .round)))

@@ -3,6 +3,7 @@ use mathlib.Core.Path.{_≡_}
 use mathlib.Core.Bool.{true, false}
 use mathlib.Core.List.{List}
 use Prim.Native.Nat.{ℕ}
+use lib.ListN.{length}
 use Rattle.circuit.specs.declared.verdict.Verdict.{Verdict}
 use Rattle.circuit.specs.Legs.{Subtable}
 use Rattle.circuit.specs.Round.{RoundOf}
@@ -20,7 +21,8 @@ leaves t = record { none = false; left = t }
 pub record Sound (n : ℕ) (t : List ℕ) (v : Verdict) : Type 0 where
   -- no leg appears that was not there
   pub sub : Subtable (v .left) t
-  -- a table without stray legs stays one
+  -- a table of 64 words stays one, and so does one without stray legs
+  pub long : length t ≡ 64 → length (v .left) ≡ 64
   pub clean : stray n t ≡ false → stray n (v .left) ≡ false
   -- where t has a round, the verdict is not none and every leg of the round still stands
   pub rounds : (h : ℕ → ℕ) → RoundOf n t h → (v .none ≡ false) × RoundOf n (v .left) h

@@ -5,8 +5,9 @@ ghost use denote.Ref.{now};
 ghost use mathlib.Core.Path.{_≡_};
 ghost use Prim.Native.Nat.{_≤_, _<_};
 ghost use lib.ListN.{length};
-ghost use Rattle.circuit.specs.Check.{choiceOf, isList, checkCall};
-ghost use Rattle.circuit.specs.inner.Lists.{goodEntry, goodEntries, Numbers, Returns, Decides};
+ghost use Rattle.bitset.specs.Tests.{Decides};
+ghost use Rattle.circuit.specs.Check.{choiceOf, Numbers, isList, checkCall};
+ghost use Rattle.circuit.specs.inner.Lists.{goodEntry, goodEntries, Returns};
 
 // What the list check hands back.
 pub struct Checked {

@@ -1,29 +1,37 @@
--- Demand 3: of a list of calls from an opened sheet, and of two budgets. Assumes nothing.
+-- The demands hold. Assumes nothing.
 use mathlib.Core.Path.{_≡_, refl, sym, ap, _∙_}
 use mathlib.Core.Logic.{⊎-elim}
 use mathlib.Core.List.{List, [], _∷_, _++_}
-use Rattle.circuit.specs.declared.state.Work.{Work}
+use Prim.Native.Nat.{ℕ}
 use Rattle.circuit.specs.declared.card.End.the-variants.{Open}
-use Rattle.sheet.specs.declared.Opened.{Opened}
+use Rattle.circuit.specs.declared.state.Work.{Work}
 use Rattle.circuit.specs.Legs.{leg}
 use Rattle.circuit.specs.State.{rowsOf}
+use Rattle.circuit.proofs.CheckLaws.{list-round, round-list}
+use Rattle.sheet.specs.declared.Opened.{Opened}
 use Rattle.sheet.specs.Open.{openCall}
-use Rattle.sheet.proofs.TakenLaws.{taken}
-use Rattle.filter.specs.Leads.{Leads}
-use Rattle.demands.specs.Sequence.{Call, sweeping, passing, running, handed, afterAll, Kept, Demand3}
-use Rattle.filter.proofs.CallLaws.{stay, leads-on, open-none, sweepCall-leads, passCall-leads, runCall-leads}
-use Rattle.filter.proofs.RunLaws.{budgets}
+use Rattle.sheet.proofs.GrammarLaws.{sheet-taken, taken-sheet, unknown-bit-refused}
+use Rattle.filter.specs.Leads.{All, Leads}
+use Rattle.filter.proofs.CallLaws.{stay, leads-on, open-none, handCall-leads, runCall-leads}
+use Rattle.filter.proofs.RunLaws.{budgets, run-bad}
+use Rattle.demands.specs.Sequence.{Call, calling, running, checking, reporting, handed, afterAll}
+use Rattle.demands.specs.Demands.{Demand1, Demand2, Kept, Demand3}
+use Rattle.demands.proofs.RefusalLaws.{opening-refused, hand-refused, run-refused, list-refused, report-refused}
+use Rattle.demands.proofs.CountLaws.{hand-removed, run-removed, steps-most, open-spent}
 
-handed-leads : (w : Work) (c : Call) → Leads w (handed w c)
+-- ---- a list of calls
+
+pub handed-leads : (P : (ℕ → ℕ) → Type 0) (w : Work) (c : Call) → Leads P w (handed w c)
 unfolding handed
-handed-leads w sweeping = sweepCall-leads w
-handed-leads w (passing seed) = passCall-leads w seed
-handed-leads w (running budget) = runCall-leads w budget
+handed-leads P w (calling r) = handCall-leads P w r
+handed-leads P w (running budget) = runCall-leads P w budget
+handed-leads P w (checking list) = stay P w
+handed-leads P w (reporting buffer) = stay P w
 
-pub all-leads : (w : Work) (cs : List Call) → Leads w (afterAll w cs)
+pub all-leads : (P : (ℕ → ℕ) → Type 0) (w : Work) (cs : List Call) → Leads P w (afterAll w cs)
 unfolding afterAll
-all-leads w [] = stay w
-all-leads w (c ∷ cs) = leads-on w (handed w c) (afterAll (handed w c) cs) (handed-leads w c) (all-leads (handed w c) cs)
+all-leads P w [] = stay P w
+all-leads P w (c ∷ cs) = leads-on P w (handed w c) (afterAll (handed w c) cs) (handed-leads P w c) (all-leads P (handed w c) cs)
 
 all-append : (w : Work) (cs bs : List Call) → afterAll w (cs ++ bs) ≡ afterAll (afterAll w cs) bs
 unfolding afterAll
@@ -32,13 +40,46 @@ all-append w (c ∷ cs) bs = all-append (handed w c) cs bs
 
 kept : (w : Work) → w .end ≡ Open → (cs : List Call) → Kept w cs
 kept w o cs =
-    let L = all-leads w cs in
+    let L = all-leads All w cs in
     record {
-      drivable = λ i j d. ap (leg (rowsOf (afterAll w cs)) i) (sym (d .driven)) ∙ (L .rounds (d .choice) (d .round)) .drives i (d .station);
-      none = λ e h r. ⊎-elim (λ f. open-none (sym o ∙ f)) (λ f. f h r) (L .none e);
+      drivable = λ i j d. ap (leg (rowsOf (afterAll w cs)) i) (sym (d .driven)) ∙ (L .rounds (d .choice) tt (d .round)) .drives i (d .station);
+      none = λ e h r. ⊎-elim (λ f. open-none (sym o ∙ f)) (λ f. f h tt r) (L .none e);
       missing = λ before later e i j h.
-          all-leads (afterAll w before) later .sub i j (ap (λ (u : Work). leg (rowsOf u) i j) (sym (ap (afterAll w) e ∙ all-append w before later)) ∙ h);
+          all-leads All (afterAll w before) later .sub i j (ap (λ (u : Work). leg (rowsOf u) i j) (sym (ap (afterAll w) e ∙ all-append w before later)) ∙ h);
+    }
+
+-- ---- the demands
+
+pub demand1 : Demand1
+demand1 =
+    record {
+      sheets = sheet-taken;
+      no-others = taken-sheet;
+      unknown = unknown-bit-refused;
+      opening = opening-refused;
+      byHand = hand-refused;
+      run = run-refused;
+      list = list-refused;
+      report = report-refused;
+    }
+
+pub demand2 : Demand2
+demand2 =
+    record {
+      removed = hand-removed;
+      run-removed = run-removed;
+      steps = steps-most;
+      spent = open-spent;
+      stations = λ w c. handed-leads All w c .stations;
+      limit = λ w c. handed-leads All w c .limit;
+      rounds = list-round;
+      listed = round-list;
     }
 
 pub demand3 : Demand3
-demand3 = record { list = λ sheet limit t cs. kept (openCall sheet limit .work) (ap (λ (r : Opened). r .work .end) (taken sheet limit t .opened)) cs; budgets = budgets }
+demand3 =
+    record {
+      list = λ sheet limit t cs. kept (openCall sheet limit .work) (ap (λ (r : Opened). r .work .end) (taken-sheet sheet limit t .opened)) cs;
+      budgets = budgets;
+      refused = run-bad;
+    }

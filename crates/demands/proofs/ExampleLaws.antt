@@ -1,10 +1,10 @@
 -- The papers' examples, by computation. Assumes nothing.
 use mathlib.Core.Path.{_≡_, refl}
 use mathlib.Core.Bool.{true}
-use Rattle.demands.specs.Rules.{rules}
+use Rattle.demands.specs.Definitions.{definitions}
 use Rattle.demands.specs.Examples.{listed, begun, removes, budget, holds, every, nineLegs, ringOfFour, ringOfFive, butterfly, fullOfFour, examples}
 
 -- the items with ◆
 pub examples-hold : every examples ≡ true
-unfolding rules listed begun removes budget holds every nineLegs ringOfFour ringOfFive butterfly fullOfFour examples
+unfolding definitions listed begun removes budget holds every nineLegs ringOfFour ringOfFive butterfly fullOfFour examples
 examples-hold = refl

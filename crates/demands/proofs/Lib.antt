@@ -1,3 +1,5 @@
--- Demand 3 and the examples.
+-- The demands and the examples hold.
+pub mod RefusalLaws
+pub mod CountLaws
 pub mod DemandLaws
 pub mod ExampleLaws

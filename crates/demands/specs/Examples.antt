@@ -7,7 +7,7 @@ use lib.Dec.{eqb}
 use lib.ListN.{length}
 use Rattle.bitset.specs.Sets.{all}
 use Rattle.circuit.specs.declared.state.Work.{Work}
-use Rattle.filter.specs.declared.Called.{Called}
+use Rattle.filter.specs.declared.hand.Called.{Called}
 use Rattle.circuit.specs.declared.card.Answer.{Answer}
 use Rattle.circuit.specs.Card.{number, isWord}
 use Rattle.bitset.specs.Upto.{row}

@@ -1,4 +1,5 @@
--- Sequences of calls, what demand 3 says of them, and the papers' examples.
+-- Sequences of calls, the demands of the paper, and its examples.
 pub mod Sequence
-pub mod Rules
+pub mod Demands
 pub mod Examples
+pub mod Definitions

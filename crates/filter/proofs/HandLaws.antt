@@ -2,16 +2,16 @@
 use mathlib.Core.Path.{_≡_, sym, ap, ap₂, _∙_}
 use mathlib.Core.Bool.{true, false, cond}
 use mathlib.Core.List.{List}
-use Prim.Native.Nat.{ℕ, pred, _-_, _≤_, _<_}
+use Prim.Native.Nat.{ℕ, _-_, _≤_, _<_}
 use native.Mathlib.Omega.{arith}
 use lib.Count.{ones}
 use lib.Dec.{ltb}
-use Rattle.bitset.specs.Sets.{outside, sum, size}
+use Rattle.bitset.specs.Sets.{sum, size}
 use Rattle.bitset.proofs.BoolLaws.{cond-true, cond-false}
 use Rattle.bitset.proofs.SumLaws.{sum-ext}
 use Rattle.circuit.specs.declared.state.Work.{Work}
 use Rattle.circuit.specs.declared.verdict.Verdict.{Verdict}
-use Rattle.filter.specs.declared.Called.{Called}
+use Rattle.filter.specs.declared.hand.Called.{Called}
 use Rattle.circuit.specs.declared.card.Answer.the-variants.{Taken, BadWork, StraySeed}
 use Rattle.bitset.specs.Upto.{row}
 use Rattle.circuit.specs.Legs.{legs, Subtable}
@@ -19,14 +19,14 @@ use Rattle.circuit.specs.State.{isNone, rowsOf, stray, bad, Good}
 use Rattle.circuit.specs.Verdict.{Sound}
 use Rattle.circuit.proofs.LegsLaws.{legs-le}
 use Rattle.circuit.proofs.StateLaws.{legs-ones}
-use Rattle.filter.specs.Sweep.{sweep}
-use Rattle.filter.specs.Pass.{pass}
-use Rattle.filter.specs.Calls.{gone, halted, unchanged, reopened, byHand, sweepCall, passCall}
-use Rattle.filter.specs.inner.Steps.{Within}
+use Rattle.filter.specs.declared.rule.Rule.{Rule}
+use Rattle.filter.specs.Rule.{straySeed}
+use Rattle.filter.specs.Calls.{gone, halted, unchanged, reopened, byHand, verdict, handCall}
+use Rattle.filter.specs.inner.Steps.{Narrows}
 
 -- a sound verdict leaves no stray leg and no leg that was missing
-pub within : (w : Work) (v : Verdict) → Good w → Sound (w .n) (rowsOf w) v → Within w v
-within w v g s = record { clean = s .clean (g .table); sub = s .sub }
+pub narrows : (w : Work) (v : Verdict) → Good w → Sound (w .n) (rowsOf w) v → Narrows w v
+narrows w v g s = record { clean = s .clean (g .table); sub = s .sub }
 
 -- legs before less legs after, from the counts of ones
 module _ (n : ℕ) (t u : List ℕ) (most : n ≤ 64) (clean : stray n t ≡ false) (left : stray n u ≡ false) (sub : Subtable u t) (a b : ℕ) (ea : a ≡ sum 64 (λ k. ones (row t k))) (eb : b ≡ sum 64 (λ k. ones (row u k))) where
@@ -76,34 +76,20 @@ pub hand-ended : (w : Work) (v : Verdict) → isNone (w .end) ≡ true → uncha
 unfolding byHand
 hand-ended w v e = sym (cond-true (unchanged Taken w) _ e)
 
--- ---- the sweep by hand
+-- ---- the checks, in their order
 
-module _ (w : Work) where
-  pub sweep-bad : bad w ≡ true → unchanged BadWork w ≡ sweepCall w
-  unfolding sweepCall
-  sweep-bad e = sym (cond-true (unchanged BadWork w) (byHand w (sweep (w .n) (rowsOf w))) e)
+module _ (w : Work) (r : Rule) where
+  fits : Called
+  fits = cond (straySeed (w .n) r) (unchanged StraySeed w) (byHand w (verdict w r))
 
-  pub sweep-good : bad w ≡ false → (r : Called) → r ≡ byHand w (sweep (w .n) (rowsOf w)) → r ≡ sweepCall w
-  unfolding sweepCall
-  sweep-good e r q = q ∙ sym (cond-false (unchanged BadWork w) (byHand w (sweep (w .n) (rowsOf w))) e)
+  pub call-bad : bad w ≡ true → unchanged BadWork w ≡ handCall w r
+  unfolding handCall fits
+  call-bad e = sym (cond-true (unchanged BadWork w) fits e)
 
--- ---- the pass by hand
+  pub call-stray : bad w ≡ false → straySeed (w .n) r ≡ true → unchanged StraySeed w ≡ handCall w r
+  unfolding handCall fits
+  call-stray e o = sym (cond-true (unchanged StraySeed w) (byHand w (verdict w r)) o) ∙ sym (cond-false (unchanged BadWork w) fits e)
 
-module _ (w : Work) (seed : ℕ) where
-  v : Verdict
-  v = pass (w .n) (rowsOf w) (w .limit) (pred seed)
-
-  in-range : Called
-  in-range = cond (outside 1 (w .n) seed) (unchanged StraySeed w) (byHand w v)
-
-  pub pass-bad : bad w ≡ true → unchanged BadWork w ≡ passCall w seed
-  unfolding passCall v in-range
-  pass-bad e = sym (cond-true (unchanged BadWork w) in-range e)
-
-  pub pass-stray : bad w ≡ false → outside 1 (w .n) seed ≡ true → unchanged StraySeed w ≡ passCall w seed
-  unfolding passCall v in-range
-  pass-stray e o = sym (cond-true (unchanged StraySeed w) (byHand w v) o) ∙ sym (cond-false (unchanged BadWork w) in-range e)
-
-  pub pass-good : bad w ≡ false → outside 1 (w .n) seed ≡ false → (r : Called) → r ≡ byHand w (pass (w .n) (rowsOf w) (w .limit) (pred seed)) → r ≡ passCall w seed
-  unfolding passCall v in-range
-  pass-good e o r q = q ∙ sym (cond-false (unchanged StraySeed w) (byHand w v) o) ∙ sym (cond-false (unchanged BadWork w) in-range e)
+  pub call-good : bad w ≡ false → straySeed (w .n) r ≡ false → byHand w (verdict w r) ≡ handCall w r
+  unfolding handCall fits
+  call-good e o = sym (cond-false (unchanged StraySeed w) (byHand w (verdict w r)) o) ∙ sym (cond-false (unchanged BadWork w) fits e)

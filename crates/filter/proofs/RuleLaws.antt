@@ -1,27 +1,27 @@
--- Each rule is sound, and each place of the cycle has one that fits.
+-- Each rule is sound, and each place of the cycle has one that fits. Assumes nothing.
 use mathlib.Core.Path.{_≡_, refl}
+use mathlib.Core.Bool.{false}
 use mathlib.Core.List.{List}
-use Prim.Native.Nat.{ℕ, zero, suc, _≤_}
-use Rattle.circuit.specs.declared.state.Work.{Work}
+use Prim.Native.Nat.{ℕ, zero, suc, pred, _≤_, _<_}
+use native.Mathlib.Omega.{arith}
 use Rattle.circuit.specs.Verdict.{Sound}
-use Rattle.circuit.specs.State.{rowsOf, lastPlace}
-use Rattle.filter.specs.Calls.{atPlace}
-use Rattle.filter.specs.Rule.{Rule, sweeping, passing, says, Fits, ruleAt}
+use Rattle.circuit.specs.State.{lastPlace}
+use Rattle.circuit.proofs.StateLaws.{inside, not-outside}
+use Rattle.filter.specs.declared.rule.Rule.{Rule}
+use Rattle.filter.specs.declared.rule.Rule.the-variants.{Sweep, Pass}
+use Rattle.filter.specs.Rule.{says, straySeed, ruleAt}
 use Rattle.filter.proofs.SweepLaws.{sweep-sound}
 use Rattle.filter.proofs.PassLaws.{pass-sound}
 
-pub says-sound : (r : Rule) (n : ℕ) (t : List ℕ) (limit : ℕ) → Fits n r → n ≤ 64 → Sound n t (says r n t limit)
+-- the index of a seed that is not stray
+pub seed-in : (n seed : ℕ) → (1 ≤ seed) × (seed ≤ n) → pred seed < n
+seed-in n seed h = omega (arith, h .0, h .1)
+
+pub says-sound : (r : Rule) (n : ℕ) (t : List ℕ) (limit : ℕ) → n ≤ 64 → straySeed n r ≡ false → Sound n t (says r n t limit)
 unfolding says
-says-sound sweeping n t limit f le = sweep-sound n t le
-says-sound (passing seed) n t limit f le = pass-sound n t limit seed f le
+says-sound Sweep n t limit le f = sweep-sound n t le
+says-sound (Pass seed) n t limit le f = pass-sound n t limit (pred seed) (seed-in n seed (inside 1 n seed f)) le
 
-pub place-fits : (n k : ℕ) → k ≤ lastPlace n → Fits n (ruleAt k)
-unfolding ruleAt
-place-fits n zero h = tt
-place-fits n (suc r) h = h
-
--- the definition of today is the rule of the place
-pub at-rule : (w : Work) (k : ℕ) → atPlace w k ≡ says (ruleAt k) (w .n) (rowsOf w) (w .limit)
-unfolding atPlace says ruleAt
-at-rule w zero = refl
-at-rule w (suc r) = refl
+pub place-fits : (n k : ℕ) → k ≤ lastPlace n → straySeed n (ruleAt k) ≡ false
+place-fits n zero h = refl
+place-fits n (suc r) h = not-outside 1 n (suc r) (omega arith) h

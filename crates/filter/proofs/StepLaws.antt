@@ -1,53 +1,26 @@
 -- A step of the run by cases, and the run's loop, as the code goes through them. Assumes nothing.
 use mathlib.Core.Path.{_≡_, refl, sym, ap, ap₂, _∙_, subst}
 use mathlib.Core.Bool.{Bool, true, false, cond, _||_}
-use mathlib.Core.List.{List}
-use Prim.Native.Nat.{ℕ, zero, suc, _+_, _-_, _*_, _≤_, _<_}
-use native.Mathlib.Nat.{add-zero, le-dest, not-suc-le-zero}
+use Prim.Native.Nat.{ℕ, _+_, _≤_}
+use native.Mathlib.Nat.{add-zero, le-dest}
 use native.Mathlib.Numerals.{add-one}
 use native.Mathlib.Omega.{arith}
 use lib.Dec.{ltb}
-use Rattle.bitset.specs.Sets.{has, size, sum}
 use Rattle.bitset.proofs.BoolLaws.{cond-true, cond-false}
-use Rattle.bitset.proofs.OnesLaws.{count-le}
 use Rattle.circuit.specs.declared.state.Work.{Work}
 use Rattle.circuit.specs.declared.verdict.Verdict.{Verdict}
-use Rattle.filter.specs.declared.Called.{Called}
-use Rattle.filter.specs.declared.Ran.{Ran}
+use Rattle.filter.specs.declared.hand.Called.{Called}
+use Rattle.filter.specs.declared.cycle.Ran.{Ran}
 use Rattle.circuit.specs.declared.card.Answer.the-variants.{Taken}
 use Rattle.circuit.specs.declared.card.End.the-variants.{Open, Stable}
-use Rattle.bitset.specs.Upto.{row}
-use Rattle.circuit.specs.Legs.{legs, Subtable}
-use Rattle.circuit.specs.State.{isOpen, rowsOf, fresh, moved, lastPlace, Good}
-use Rattle.filter.specs.Sweep.{sweep}
-use Rattle.filter.specs.Pass.{pass}
-use Rattle.filter.specs.Calls.{gone, halted, atPlace, advanced, cycled, after, step, runFrom}
-use Rattle.filter.proofs.CallLaws.{atPlace-sound, step-leads, run-removed}
+use Rattle.circuit.specs.Legs.{legs}
+use Rattle.circuit.specs.State.{isOpen, rowsOf, moved, lastPlace, Good}
+use Rattle.filter.specs.Rule.{ruleAt}
+use Rattle.filter.specs.Leads.{All}
+use Rattle.filter.specs.Calls.{verdict, gone, halted, advanced, cycled, after, step, runFrom}
+use Rattle.filter.proofs.CallLaws.{step-leads}
+use Rattle.filter.proofs.RemovalLaws.{run-removed}
 use Rattle.filter.proofs.RunLaws.{both, run-open, run-add, run-same}
-
--- ---- what stands at a place
-
-pub at-first : (w : Work) (k : ℕ) → k ≡ 0 → sweep (w .n) (rowsOf w) ≡ atPlace w k
-unfolding atPlace
-at-first w k e = ap (atPlace w) (sym e)
-
-pub at-seed : (w : Work) (k : ℕ) → 0 < k → pass (w .n) (rowsOf w) (w .limit) (k - 1) ≡ atPlace w k
-unfolding atPlace
-at-seed w zero l = absurd (not-suc-le-zero l)
-at-seed w (suc k) l = let e : suc k - 1 ≡ k = omega arith in ap (pass (w .n) (rowsOf w) (w .limit)) e
-
--- the rule at a place reads n, the table and the limit only
-at-fresh : (w : Work) (k : ℕ) → atPlace (fresh (w .n) (rowsOf w) (w .limit)) k ≡ atPlace w k
-unfolding atPlace
-at-fresh w zero = refl
-at-fresh w (suc k) = refl
-
-module _ (w : Work) (none : Bool) (rows : List ℕ) (e : atPlace (fresh (w .n) (rowsOf w) (w .limit)) (w .place) ≡ record { none = none; left = rows }) where
-  pub place-verdict : record { none = none; left = rows } ≡ atPlace w (w .place)
-  place-verdict = sym e ∙ at-fresh w (w .place)
-
-  pub place-sub : Good w → Subtable rows (rowsOf w)
-  place-sub g = subst (λ (v : Verdict). Subtable (v .left) (rowsOf w)) (sym place-verdict) (atPlace-sound w g (w .place) (g .place) .sub)
 
 -- ---- the state after a step
 
@@ -75,22 +48,11 @@ module _ (w : Work) (v : Verdict) where
         ap (λ (b : Bool). moved w (v .left) 0 false (cond b Open Stable)) is ∙ sym (cond-false (advanced w v mark) (cycled w v mark) l)
         ∙ sym (cond-false (halted w v) on e)
 
-pub step-is : (w : Work) (v : Verdict) (u : Work) (r : ℕ) → v ≡ atPlace w (w .place) → r ≡ gone w v → u ≡ after w v → record { answer = Taken; work = u; removed = r } ≡ step w
+pub step-is : (w : Work) (v : Verdict) (u : Work) (r : ℕ) → v ≡ verdict w (ruleAt (w .place)) → r ≡ gone w v → u ≡ after w v → record { answer = Taken; work = u; removed = r } ≡ step w
 unfolding step
 step-is w v u r e p q =
     ap₂ (λ (x : Work) (y : ℕ). record { answer = Taken; work = x; removed = y }) q p
     ∙ ap (λ (x : Verdict). record { answer = Taken; work = after w x; removed = gone w x }) e
-
--- ---- how many legs there can be
-
-sum-most : (m : ℕ) (f : ℕ → ℕ) → ((k : ℕ) → f k ≤ 64) → sum m f ≤ 64 * m
-unfolding sum
-sum-most zero f h = omega arith
-sum-most (suc m) f h = omega (arith, sum-most m f h, h m)
-
-pub legs-most : (n : ℕ) (t : List ℕ) → n ≤ 64 → legs n t ≤ 4096
-unfolding legs size
-legs-most n t le = omega (arith, sum-most n (λ i. size n (row t i)) (λ i. omega (arith, count-le n (has (row t i)))))
 
 -- ---- the loop: what the first `steps` steps of the run have come to
 
@@ -117,7 +79,7 @@ module _ {start w : Work} {steps removed : ℕ} (h : Run start w steps removed) 
             run-add steps 1 start ∙ ap (λ (r : Ran). both r (runFrom 1 (r .work))) (h .is) ∙ ap (both (record { answer = Taken; work = w; steps = steps; removed = removed })) (run-open 0 w o)
             ∙ ap (λ (k : ℕ). record { answer = Taken; work = step w .work; steps = steps + 1; removed = removed + k }) (add-zero (step w .removed))
             ∙ ap (λ (q : Called). record { answer = Taken; work = q .work; steps = steps + 1; removed = removed + q .removed }) (sym e);
-        good = subst (λ (q : Called). Good (q .work)) (sym e) (step-leads w (h .good) .keeps (h .good));
+        good = subst (λ (q : Called). Good (q .work)) (sym e) (step-leads All w (h .good) .keeps (h .good));
       }
 
   -- the budget is spent

@@ -14,14 +14,18 @@ use Rattle.bitset.proofs.OnesLaws.{size-ones}
 use Rattle.circuit.specs.declared.verdict.Verdict.{Verdict}
 use Rattle.circuit.specs.State.{stray}
 use Rattle.circuit.specs.Verdict.{leaves}
-use Rattle.separator.specs.Levels.{levels, inner}
+use Rattle.separator.specs.Levels.{inner}
 use Rattle.separator.specs.Level.{level}
 use Rattle.separator.specs.inner.Strike.{LevelOf}
 use Rattle.separator.proofs.ExactLaws.{level-clean}
 use Rattle.separator.proofs.InnerLaws.{innerFrom, inner-start, inner-step, inner-end}
-use Rattle.filter.specs.Pass.{passOver, pass}
+use Rattle.filter.specs.Pass.{passOver}
 use Rattle.circuit.specs.inner.Tables.{Columned}
 use Rattle.filter.specs.inner.Steps.{limited, TableTaken}
+
+-- what was taken of a verdict was taken of an equal one
+pub taken-as : {n : ℕ} {u v : Verdict} {none : Bool} {rows cols : List ℕ} → u ≡ v → TableTaken n u none rows cols → TableTaken n v none rows cols
+taken-as e T = record { verdict = sym e ∙ T .verdict; table = T .table }
 
 -- ---- one level
 
@@ -77,10 +81,3 @@ module _ (n limit count : ℕ) (level t : List ℕ) (most : count ≤ length lev
   pub passing-end : (k : ℕ) (rows cols : List ℕ) → Passing n limit count level t k rows cols → count ≤ k + 1 → TableTaken n (passOver (inner (take count level)) n limit t) false rows cols
   unfolding passOver
   passing-end k rows cols P l = record { verdict = sym (P .rest) ∙ ap (λ (x : List ℕ). passOver x n limit rows) (inner-end k count level l); table = P .table }
-
--- ---- the pass
-
-pub pass-is : (n limit seed count : ℕ) (level t rows cols : List ℕ) (none : Bool) → take count level ≡ levels n t seed
-    → TableTaken n (passOver (inner (take count level)) n limit t) none rows cols → TableTaken n (pass n t limit seed) none rows cols
-unfolding pass
-pass-is n limit seed count level t rows cols none e T = record { verdict = ap (λ (l : List ℕ). passOver (inner l) n limit t) (sym e) ∙ T .verdict; table = T .table }

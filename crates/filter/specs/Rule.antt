@@ -1,25 +1,25 @@
--- The rules that strike legs, as data: the calls by hand, the cycle of the run and the sequences name a rule and not its definition.
+-- The rules that strike legs: what each says of a table, and which stands at each place of the cycle. A seed is a station's number, from 1.
+use mathlib.Core.Bool.{Bool, false}
 use mathlib.Core.List.{List}
-use Prim.Native.Nat.{ℕ, zero, suc, _<_}
+use Prim.Native.Nat.{ℕ, zero, suc, pred}
+use Rattle.bitset.specs.Sets.{outside}
 use Rattle.circuit.specs.declared.verdict.Verdict.{Verdict}
+use Rattle.filter.specs.declared.rule.Rule.{Rule}
+use Rattle.filter.specs.declared.rule.Rule.the-variants.{Sweep, Pass}
 use Rattle.filter.specs.Sweep.{sweep}
 use Rattle.filter.specs.Pass.{pass}
 
-pub data Rule : Type 0 where
-  sweeping : Rule
-  passing : ℕ → Rule
-
--- what the rule says of a table of n stations, under a limit
+-- what the rule says of the table t of n stations, with a separator limit
 unfoldable pub says : Rule → ℕ → List ℕ → ℕ → Verdict
-says sweeping n t limit = sweep n t
-says (passing seed) n t limit = pass n t limit seed
+says Sweep n t limit = sweep n t
+says (Pass seed) n t limit = pass n t limit (pred seed)
 
--- the rule can be asked of n stations
-abbrev pub Fits : ℕ → Rule → Type 0
-Fits n sweeping = Unit {0}
-Fits n (passing seed) = seed < n
+-- stray seed: 0 or above n
+abbrev pub straySeed : ℕ → Rule → Bool
+straySeed n Sweep = false
+straySeed n (Pass seed) = outside 1 n seed
 
 -- the cycle: at place 0 a sweep, at place r a pass with seed r
-unfoldable pub ruleAt : ℕ → Rule
-ruleAt zero = sweeping
-ruleAt (suc r) = passing r
+abbrev pub ruleAt : ℕ → Rule
+ruleAt zero = Sweep
+ruleAt (suc r) = Pass (suc r)

@@ -1,2 +1,3 @@
 -- Laws of a work state in words.
 pub mod WordsLaws
+pub mod ChainLaws

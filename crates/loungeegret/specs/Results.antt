@@ -9,8 +9,8 @@ use Rattle.bitset.specs.Sets.{digit}
 use Rattle.circuit.specs.declared.card.Answer.{Answer}
 use Rattle.circuit.specs.declared.state.Work.{Work}
 use Rattle.sheet.specs.declared.Opened.{Opened}
-use Rattle.filter.specs.declared.Called.{Called}
-use Rattle.filter.specs.declared.Ran.{Ran}
+use Rattle.filter.specs.declared.hand.Called.{Called}
+use Rattle.filter.specs.declared.cycle.Ran.{Ran}
 use Rattle.circuit.specs.declared.list.Checked.{Checked}
 use Rattle.report.specs.declared.Reported.{Reported}
 use Rattle.circuit.specs.Card.{number}

@@ -1,4 +1,4 @@
--- Laws on plain numbers and functions, which the functions' proofs cite; `Reading` says what the contract of `assign` comes to.
+-- Laws on plain numbers and functions, which the functions' proofs cite.
 pub mod WordLaws
 pub mod PutLaws
 pub mod PathLaws
@@ -6,4 +6,3 @@ pub mod SearchLaws
 pub mod SpareLaws
 pub mod OrbitLaws
 pub mod HallLaws
-pub mod Reading

@@ -9,25 +9,26 @@ use native.Mathlib.Omega.{arith}
 use lib.ListN.{length}
 use Rattle.bitset.specs.Sets.{has}
 use Rattle.bitset.proofs.BoolLaws.{not-both, is-false}
-use Rattle.matching.specs.Matching.{In, Out, nth, Assigns}
+use Rattle.bitset.specs.Upto.{row}
+use Rattle.matching.specs.Matching.{In, Out, Assigns}
 use Rattle.matching.specs.inner.Paths.{Matched, Step, Forest}
 use Rattle.matching.proofs.WordLaws.{Without}
 use Rattle.matching.proofs.PutLaws.{Put, put, put-is, put-same, put-other}
 
 -- `to` gives every component below m a station but c
 pub record But (fits : List ℕ) (m c : ℕ) (to : ℕ → ℕ) : Type 0 where
-  pub fit : (d : ℕ) → d < m → (d ≡ c → ⊥) → In (nth fits d) (to d)
+  pub fit : (d : ℕ) → d < m → (d ≡ c → ⊥) → In (row fits d) (to d)
   pub apart : (d e : ℕ) → d < m → e < m → (d ≡ c → ⊥) → (e ≡ c → ⊥) → to d ≡ to e → d ≡ e
 
 -- c gets the station s, which no other has
-pub fill : (fits : List ℕ) (m c s : ℕ) (to to′ : ℕ → ℕ) → But fits m c to → In (nth fits c) s
+pub fill : (fits : List ℕ) (m c s : ℕ) (to to′ : ℕ → ℕ) → But fits m c to → In (row fits c) s
     → ((d : ℕ) → d < m → (d ≡ c → ⊥) → to d ≡ s → ⊥) → Put to c s to′ → Assigns fits m to′
 fill fits m c s to to′ but hit clear is = record { fit = fit; apart = apart }
   where
-    fit : (d : ℕ) → d < m → In (nth fits d) (to′ d)
+    fit : (d : ℕ) → d < m → In (row fits d) (to′ d)
     fit d l =
-        ⊎-elim (λ (r : (d ≡ c) × (to′ d ≡ s)). ap₂ (λ (x y : ℕ). has (nth fits x) y) (r .0) (r .1) ∙ hit)
-        (λ (r : (d ≡ c → ⊥) × (to′ d ≡ to d)). ap (has (nth fits d)) (r .1) ∙ but .fit d l (r .0)) (is d)
+        ⊎-elim (λ (r : (d ≡ c) × (to′ d ≡ s)). ap₂ (λ (x y : ℕ). has (row fits x) y) (r .0) (r .1) ∙ hit)
+        (λ (r : (d ≡ c → ⊥) × (to′ d ≡ to d)). ap (has (row fits d)) (r .1) ∙ but .fit d l (r .0)) (is d)
 
     apart : (d e : ℕ) → d < m → e < m → to′ d ≡ to′ e → d ≡ e
     apart d e ld le q = go (is d) (is e)
@@ -43,7 +44,7 @@ pub record Path (fits : List ℕ) (n stations free reach : ℕ) (via who : ℕ �
   pub to : ℕ → ℕ
   pub rank : ℕ → ℕ
   pub among : c ≤ n
-  pub hit : In (nth fits c) s
+  pub hit : In (row fits c) s
   pub within : In reach s
   pub but : But fits (n + 1) c to
   pub vacant : (u d : ℕ) → In free u → d < n + 1 → (d ≡ c → ⊥) → to d ≡ u → ⊥
@@ -52,8 +53,8 @@ pub record Path (fits : List ℕ) (n stations free reach : ℕ) (via who : ℕ �
   pub ahead : (u : ℕ) → In reach u → rank u ≤ rank s → In rest u
 
 module _ (fits : List ℕ) (n stations free reach : ℕ) (via : ℕ → ℕ) (inside : (u : ℕ) → In reach u → In stations u) where
-  pub path-start : (owner : List ℕ) (rank : ℕ → ℕ) (s : ℕ) → Matched fits owner n stations free → Forest fits stations free reach (nth owner) via rank
-      → In (nth fits n) s → In reach s → Path fits n stations free reach via (nth owner) n s reach
+  pub path-start : (owner : List ℕ) (rank : ℕ → ℕ) (s : ℕ) → Matched fits owner n stations free → Forest fits stations free reach (row owner) via rank
+      → In (row fits n) s → In reach s → Path fits n stations free reach via (row owner) n s reach
   path-start owner rank s m f hit within =
       record {
         to = m .to;
@@ -77,7 +78,7 @@ module _ (fits : List ℕ) (n stations free reach : ℕ) (via : ℕ → ℕ) (in
       pub path-owned : (who s < n + 1) × (who s ≡ c → ⊥) × (p .to (who s) ≡ s)
       path-owned = p .owned s (inside s (p .within)) o
 
-    module _ (owner : List ℕ) (is : Put who s c (nth owner)) where
+    module _ (owner : List ℕ) (is : Put who s c (row owner)) where
       to′ : ℕ → ℕ
       to′ = put (p .to) c s
 
@@ -99,10 +100,10 @@ module _ (fits : List ℕ) (n stations free reach : ℕ) (via : ℕ → ℕ) (in
             owned = owned;
           }
         where
-          owned : (u : ℕ) → In stations u → Out left u → (nth owner u < n + 1) × (to′ (nth owner u) ≡ u)
+          owned : (u : ℕ) → In stations u → Out left u → (row owner u < n + 1) × (to′ (row owner u) ≡ u)
           owned u j o =
-              ⊎-elim (λ (r : (u ≡ s) × (nth owner u ≡ c)). (omega (arith, r .1, p .among), put-same moved (nth owner u) (r .1) ∙ sym (r .0)))
-              (λ (r : (u ≡ s → ⊥) × (nth owner u ≡ who u)).
+              ⊎-elim (λ (r : (u ≡ s) × (row owner u ≡ c)). (omega (arith, r .1, p .among), put-same moved (row owner u) (r .1) ∙ sym (r .0)))
+              (λ (r : (u ≡ s → ⊥) × (row owner u ≡ who u)).
               let q = p .owned u j (is-false (has free u) (λ f. not-both (d .kept u f (r .0)) o)) in
               (omega (arith, r .1, q .0), ap to′ (r .1) ∙ put-other moved (who u) (q .1) ∙ q .2)) (is u)
 
@@ -112,7 +113,7 @@ module _ (fits : List ℕ) (n stations free reach : ℕ) (via : ℕ → ℕ) (in
         lower : (u : ℕ) → p .rank u ≤ p .rank (via s) → u ≡ s → ⊥
         lower u l e = omega (arith, path-step o .falls, ap (p .rank) e)
 
-        pub path-next : (less : ℕ) → Without rest s less → Path fits n stations free reach via (nth owner) (who s) (via s) less
+        pub path-next : (less : ℕ) → Without rest s less → Path fits n stations free reach via (row owner) (who s) (via s) less
         path-next less d =
             record {
               to = to′;
@@ -127,10 +128,10 @@ module _ (fits : List ℕ) (n stations free reach : ℕ) (via : ℕ → ℕ) (in
               ahead = λ u i l. d .kept u (p .ahead u i (omega (arith, path-step o .falls))) (lower u l);
             }
           where
-            fit : (b : ℕ) → b < n + 1 → (b ≡ who s → ⊥) → In (nth fits b) (to′ b)
+            fit : (b : ℕ) → b < n + 1 → (b ≡ who s → ⊥) → In (row fits b) (to′ b)
             fit b l ne =
-                ⊎-elim (λ (r : (b ≡ c) × (to′ b ≡ s)). ap₂ (λ (x y : ℕ). has (nth fits x) y) (r .0) (r .1) ∙ p .hit)
-                (λ (r : (b ≡ c → ⊥) × (to′ b ≡ p .to b)). ap (has (nth fits b)) (r .1) ∙ p .but .fit b l (r .0)) (moved b)
+                ⊎-elim (λ (r : (b ≡ c) × (to′ b ≡ s)). ap₂ (λ (x y : ℕ). has (row fits x) y) (r .0) (r .1) ∙ p .hit)
+                (λ (r : (b ≡ c → ⊥) × (to′ b ≡ p .to b)). ap (has (row fits b)) (r .1) ∙ p .but .fit b l (r .0)) (moved b)
 
             -- none but who s was at s
             alone : (b : ℕ) → b < n + 1 → (b ≡ c → ⊥) → (b ≡ who s → ⊥) → p .to b ≡ s → ⊥
@@ -150,29 +151,29 @@ module _ (fits : List ℕ) (n stations free reach : ℕ) (via : ℕ → ℕ) (in
                 ⊎-elim (λ (r : (b ≡ c) × (to′ b ≡ s)). not-both f (ap (has free) (sym q ∙ r .1) ∙ o))
                 (λ (r : (b ≡ c → ⊥) × (to′ b ≡ p .to b)). p .vacant u b f l (r .0) (sym (r .1) ∙ q)) (moved b)
 
-            owned : (u : ℕ) → In stations u → Out free u → (nth owner u < n + 1) × (nth owner u ≡ who s → ⊥) × (to′ (nth owner u) ≡ u)
+            owned : (u : ℕ) → In stations u → Out free u → (row owner u < n + 1) × (row owner u ≡ who s → ⊥) × (to′ (row owner u) ≡ u)
             owned u j f =
                 ⊎-elim
-                (λ (r : (u ≡ s) × (nth owner u ≡ c)). (omega (arith, r .1, p .among), λ e. path-owned o .1 (sym e ∙ r .1), put-same moved (nth owner u) (r .1) ∙ sym (r .0)))
-                (λ (r : (u ≡ s → ⊥) × (nth owner u ≡ who u)).
+                (λ (r : (u ≡ s) × (row owner u ≡ c)). (omega (arith, r .1, p .among), λ e. path-owned o .1 (sym e ∙ r .1), put-same moved (row owner u) (r .1) ∙ sym (r .0)))
+                (λ (r : (u ≡ s → ⊥) × (row owner u ≡ who u)).
                 let q = p .owned u j f in (
                   omega (arith, r .1, q .0),
                   λ e. r .0 (sym (q .2) ∙ ap (p .to) (sym (r .1) ∙ e) ∙ path-owned o .2),
                   ap to′ (r .1) ∙ put-other moved (who u) (q .1) ∙ q .2,
                 )) (is u)
 
-            step : (u : ℕ) → In reach u → p .rank u ≤ p .rank (via s) → In free u ⊎ Step fits reach (nth owner) via (p .rank) u
+            step : (u : ℕ) → In reach u → p .rank u ≤ p .rank (via s) → In free u ⊎ Step fits reach (row owner) via (p .rank) u
             step u i l =
                 ⊎-elim (λ (f : In free u). inl f)
                 (λ (r : Step fits reach who via (p .rank) u). inr (record {
-                  goes = ap (λ (x : ℕ). has (nth fits x) (via u)) (put-other is u (lower u l)) ∙ r .goes;
+                  goes = ap (λ (x : ℕ). has (row fits x) (via u)) (put-other is u (lower u l)) ∙ r .goes;
                   stays = r .stays;
                   falls = r .falls;
                 })) (p .step u i (omega (arith, path-step o .falls)))
 
 -- a free station takes the component n: a path of one step
-pub direct : (fits owner owner′ : List ℕ) (n stations free s left : ℕ) → Matched fits owner n stations free → In (nth fits n) s → In free s
-    → length owner′ ≡ 64 → Put (nth owner) s n (nth owner′) → Without free s left → Matched fits owner′ (n + 1) stations left
+pub direct : (fits owner owner′ : List ℕ) (n stations free s left : ℕ) → Matched fits owner n stations free → In (row fits n) s → In free s
+    → length owner′ ≡ 64 → Put (row owner) s n (row owner′) → Without free s left → Matched fits owner′ (n + 1) stations left
 direct fits owner owner′ n stations free s left m hit i size is d =
     path-end fits n stations free free (λ u. 0) (m .inside)
     (path-start fits n stations free free (λ u. 0) (m .inside) owner (λ u. 0) s m (record { inside = m .inside; start = λ u f. f; step = λ u f. inl f }) hit i)

@@ -6,7 +6,7 @@ use Prim.Native.Nat.{ℕ, _<_}
 use native.Mathlib.Decide.{ℕ-discrete}
 use lib.ListN.{length, set}
 use lib.Seq.{getD-set-same, getD-set-other}
-use Rattle.matching.specs.Matching.{nth}
+use Rattle.bitset.specs.Upto.{row}
 
 -- g is f, but v at k
 abbrev pub Put : (ℕ → ℕ) → ℕ → ℕ → (ℕ → ℕ) → Type 0
@@ -27,11 +27,11 @@ put-is f k v e = go (ℕ-discrete e k)
     go (yes q) = inl (q, refl)
     go (no q) = inr (q, refl)
 
-pub put-set : (l : List ℕ) (k v : ℕ) → k < length l → Put (nth l) k v (nth (set l k v))
+pub put-set : (l : List ℕ) (k v : ℕ) → k < length l → Put (row l) k v (row (set l k v))
 put-set l k v b e = go (ℕ-discrete e k)
   where
-    go : Dec (e ≡ k) → ((e ≡ k) × (nth (set l k v) e ≡ v)) ⊎ ((e ≡ k → ⊥) × (nth (set l k v) e ≡ nth l e))
-    go (yes q) = inl (q, ap (nth (set l k v)) q ∙ getD-set-same l k v 0 b)
+    go : Dec (e ≡ k) → ((e ≡ k) × (row (set l k v) e ≡ v)) ⊎ ((e ≡ k → ⊥) × (row (set l k v) e ≡ row l e))
+    go (yes q) = inl (q, ap (row (set l k v)) q ∙ getD-set-same l k v 0 b)
     go (no q) = inr (q, getD-set-other l k e v 0 q)
 
 module _ {f : ℕ → ℕ} {k v : ℕ} {g : ℕ → ℕ} (is : Put f k v g) where

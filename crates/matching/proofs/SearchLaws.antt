@@ -8,7 +8,8 @@ use native.Mathlib.Decide.{ℕ-discrete}
 use native.Mathlib.Omega.{arith}
 use Rattle.bitset.specs.Sets.{has}
 use Rattle.bitset.proofs.BoolLaws.{not-both, is-false}
-use Rattle.matching.specs.Matching.{In, Out, nth}
+use Rattle.bitset.specs.Upto.{row}
+use Rattle.matching.specs.Matching.{In, Out}
 use Rattle.matching.specs.inner.Paths.{Step, Forest, Blocked}
 use Rattle.matching.proofs.WordLaws.{With, Without}
 use Rattle.matching.proofs.PutLaws.{Put, put, put-is, put-same, put-other}
@@ -49,11 +50,11 @@ module _ (fits : List ℕ) (stations free : ℕ) (who via : ℕ → ℕ) where
         }
       where
         go : (u : ℕ) → In stations u → Out reach u → Out less u → Dec (u ≡ s) → Blocked fits reach who u
-        go u j o r (yes e) = λ t f. b t (ap (λ (x : ℕ). has (nth fits (who x)) t) (sym e) ∙ f)
+        go u j o r (yes e) = λ t f. b t (ap (λ (x : ℕ). has (row fits (who x)) t) (sym e) ∙ f)
         go u j o r (no ne) = q .tried u j o (is-false (has rest u) (λ k. not-both (d .kept u k ne) r))
 
     -- the component at s can move to v: s joins the stations found
-    pub search-found : (v more rest′ : ℕ) (via′ : ℕ → ℕ) → In (nth fits (who s)) v → In reach v → With reach s more → All stations more rest′ → Put via s v via′
+    pub search-found : (v more rest′ : ℕ) (via′ : ℕ → ℕ) → In (row fits (who s)) v → In reach v → With reach s more → All stations more rest′ → Put via s v via′
         → Search fits stations free who via′ more rest′
     search-found v more rest′ via′ goes stays w all pv =
         record {
@@ -84,7 +85,7 @@ module _ (fits : List ℕ) (stations free : ℕ) (who via : ℕ → ℕ) where
         step-s u e =
             let b : via′ u ≡ v = put-same pv u e in
             record {
-              goes = ap₂ (λ (x y : ℕ). has (nth fits (who x)) y) e b ∙ goes;
+              goes = ap₂ (λ (x y : ℕ). has (row fits (who x)) y) e b ∙ goes;
               stays = ap (has more) b ∙ w .kept v stays;
               falls = omega (arith, ap rank′ b, put-other pr v (not-s v stays), q .high v stays, w .more out, put-same pr u e);
             }
@@ -93,7 +94,7 @@ module _ (fits : List ℕ) (stations free : ℕ) (who via : ℕ → ℕ) where
         step-old u j r =
             let b : via′ u ≡ via u = put-other pv u (not-s u j) in
             record {
-              goes = ap (has (nth fits (who u))) b ∙ r .goes;
+              goes = ap (has (row fits (who u))) b ∙ r .goes;
               stays = ap (has more) b ∙ w .kept (via u) (r .stays);
               falls = omega (arith, ap rank′ b, put-other pr (via u) (not-s (via u) (r .stays)), r .falls, put-other pr u (not-s u j));
             }

@@ -7,13 +7,14 @@ use native.Mathlib.Nat.{not-suc-le-zero, le-refl}
 use native.Mathlib.Omega.{arith}
 use Rattle.bitset.specs.Sets.{has}
 use Rattle.bitset.proofs.BoolLaws.{cases}
-use Rattle.matching.specs.Matching.{In, Out, nth, Assigns, LeftOut}
+use Rattle.bitset.specs.Upto.{row}
+use Rattle.matching.specs.Matching.{In, Out, Assigns, LeftOut}
 use Rattle.matching.specs.inner.Paths.{Matched, Step, Forest}
 use Rattle.matching.proofs.PutLaws.{Put, put, put-is, put-other}
 use Rattle.matching.proofs.PathLaws.{fill}
 
 module _ (fits owner : List ℕ) (p stations free reach : ℕ) (via rank : ℕ → ℕ) (m : Matched fits owner p stations free)
-    (f : Forest fits stations free reach (nth owner) via rank) where
+    (f : Forest fits stations free reach (row owner) via rank) where
   -- an assignment without u, in which the components at stations of higher ranks stay
   record Left (u : ℕ) : Type 0 where
     to : ℕ → ℕ
@@ -21,7 +22,7 @@ module _ (fits owner : List ℕ) (p stations free reach : ℕ) (via rank : ℕ �
     avoids : (c : ℕ) → c < p → to c ≡ u → ⊥
     same : (c : ℕ) → c < p → rank u < rank (m .to c) → to c ≡ m .to c
 
-  leave-step : (u : ℕ) → In stations u → Out free u → Step fits reach (nth owner) via rank u → Left (via u) → Left u
+  leave-step : (u : ℕ) → In stations u → Out free u → Step fits reach (row owner) via rank u → Left (via u) → Left u
   leave-step u i o s r =
       record {
         to = g;
@@ -32,7 +33,7 @@ module _ (fits owner : List ℕ) (p stations free reach : ℕ) (via rank : ℕ �
       }
     where
       x : ℕ
-      x = nth owner u
+      x = row owner u
 
       own : (x < p) × (m .to x ≡ u)
       own = m .owned u i o
@@ -62,7 +63,7 @@ module _ (fits owner : List ℕ) (p stations free reach : ℕ) (via rank : ℕ �
   leave (suc k) u h i =
       ⊎-elim here
       (λ (o : Out free u). ⊎-elim here
-      (λ (s : Step fits reach (nth owner) via rank u). leave-step u (f .inside u i) o s (leave k (via u) (omega (arith, s .falls)) (s .stays))) (f .step u i)) (cases (has free u))
+      (λ (s : Step fits reach (row owner) via rank u). leave-step u (f .inside u i) o s (leave k (via u) (omega (arith, s .falls)) (s .stays))) (f .step u i)) (cases (has free u))
     where
       here : In free u → Left u
       here j = record { to = m .to; assigns = m .good; avoids = λ c. m .vacant u c j; same = λ c l q. refl }

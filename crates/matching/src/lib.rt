@@ -3,7 +3,8 @@
 ghost use mathlib.Core.Path.{_≡_};
 ghost use Prim.Native.Nat.{ℕ, _+_, _<_, _≤_};
 ghost use lib.ListN.{length};
-ghost use Rattle.matching.specs.Matching.{In, Out, nth, Inside, Exact};
+ghost use Rattle.bitset.specs.Upto.{row};
+ghost use Rattle.matching.specs.Matching.{In, Out, Inside, Exact};
 ghost use Rattle.matching.specs.inner.Paths.{Matched, Reached, Augmenting, Extended};
 
 // Whether there is an assignment, and the stations that some assignment leaves out.
@@ -27,7 +28,7 @@ fn reachable(
     free: u64,
     via: &mut [u8; 64],
 ) -> u64
-    requires { ⌜ (length (now via) ≡ 64) × ((s : ℕ) → In free s → In stations s) × ((s : ℕ) → In stations s → Out free s → nth (now owner) s < 64) ⌝ }
+    requires { ⌜ (length (now via) ≡ 64) × ((s : ℕ) → In free s → In stations s) × ((s : ℕ) → In stations s → Out free s → row (now owner) s < 64) ⌝ }
     ensures { λ r. ⌜ Reached (now (fits .entry)) (now (owner .entry)) stations free r (now (via .exit)) ⌝ }
 {
     let mut reach = free;

@@ -8,7 +8,7 @@ use Rattle.writer.specs.Text.{ascii, decimal}
 use Rattle.writer.specs.Lent.{short}
 use Rattle.circuit.specs.declared.state.Work.{Work}
 use Rattle.sheet.specs.declared.Opened.{Opened}
-use Rattle.filter.specs.declared.Ran.{Ran}
+use Rattle.filter.specs.declared.cycle.Ran.{Ran}
 use Rattle.output.specs.declared.Printed.{Printed}
 use Rattle.circuit.specs.Card.{number, card, word}
 use Rattle.circuit.specs.Legs.{legs}

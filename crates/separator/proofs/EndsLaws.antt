@@ -1,36 +1,30 @@
 -- The ends of the pairs on which a mark stands, as the code finds them: the heads of one station, and a walk over the stations of a level.
 -- Assumes nothing.
 use mathlib.Core.Path.{_≡_, refl, sym, ap, ap₂, _∙_, subst}
-use mathlib.Core.Bool.{Bool, true, false, not, _&&_, _||_, and-comm, or-assoc, or-false}
+use mathlib.Core.Bool.{Bool, true, false, not, _&&_, _||_, and-comm, and-false, or-assoc, or-false}
 use mathlib.Core.List.{List}
-use Prim.Native.Nat.{ℕ, _-_, _*_, _%_, _^_, _<_}
+use Prim.Native.Nat.{ℕ, zero, suc, _-_, _*_, _%_, _^_, _<_}
 use native.Mathlib.Omega.{arith}
 use lib.Dec.{eqb, ltb}
 use lib.Bits.{bitAnd, bitOr, and-le-l, and-le-r, or-lt}
 use lib.Count.{trailingZeros}
-use lib.ListN.{getD}
 use borrow.Author.Tests.{eq-eqb, eqb-true, ltb-true, lt-ltb}
 use Rattle.bitset.specs.Sets.{has, setOf, any, meet}
-use Rattle.bitset.proofs.BoolLaws.{iff, and-intro, and-l, and-r, taut2, taut3}
+use Rattle.bitset.proofs.BoolLaws.{iff, and-intro, and-l, and-r, taut3}
 use Rattle.bitset.proofs.HasLaws.{has-zero, has-and, has-or}
-use Rattle.bitset.proofs.SetLaws.{has-setOf, setOf-lt, eq-setOf, meet-intro}
+use Rattle.bitset.proofs.SetLaws.{has-setOf, setOf-lt, setOf-ext, eq-setOf, meet-intro}
 use Rattle.bitset.proofs.OnesLaws.{has-pos}
 use Rattle.bitset.proofs.QuantLaws.{any-intro, any-elim, any-none, any-ext}
 use Rattle.bitset.proofs.LeastLaws.{trailing-least, has-clear}
 use Rattle.bitset.proofs.MemberLaws.{any-least, any-empty}
 use Rattle.bitset.proofs.MachineLaws.{shl-one, has-remove}
+use Rattle.bitset.specs.Upto.{row}
 use Rattle.circuit.specs.Legs.{leg, col}
-use Rattle.separator.specs.Level.{stands}
-use Rattle.separator.specs.inner.Spares.{pair, markAt, through, bare, entered, EndsOf}
+use Rattle.separator.specs.Level.{joins, stands, marked}
+use Rattle.separator.specs.inner.Spares.{entered, lastOf, EndsOf}
 
 eqb-swap : (a b : ℕ) → eqb a b ≡ eqb b a
 eqb-swap a b = iff (eqb a b) (eqb b a) (λ e. eq-eqb b a (sym (eqb-true a b e))) (λ e. eq-eqb a b (sym (eqb-true b a e)))
-
-pub markAt-pair : (t : List ℕ) (s : ℕ) (cs : List ℕ) (i j m : ℕ) → markAt t s cs i j m ≡ true → (has s i ≡ true) × (has s j ≡ true)
-unfolding markAt pair
-markAt-pair t s cs i j m e =
-    let f = and-l (has s i && has s j) (not (eqb i j)) (and-l (has s i && has s j && not (eqb i j)) (stands 64 t cs i j m) e) in
-    (and-l (has s i) (has s j) f, and-r (has s i) (has s j) f)
 
 -- ---- a word that is a set: its bound and its bits
 
@@ -55,50 +49,64 @@ meet-none a w e = any-none 64 (λ k. has a k && has w k) (λ k l. sym (has-and a
 
 -- ---- the small functions
 
-pub entered-is : (t : List ℕ) (s w u : ℕ) → s < 2 ^ 64 → u ≡ setOf 64 (λ k. any 64 (λ i. has w i && has (getD t i 0) k))
-    → bitAnd u s ≡ entered t s w
-unfolding entered meet col leg
-entered-is t s w u h e =
-    eq-setOf 64 (bitAnd u s) _ (omega (arith, and-le-r u s))
-    (λ k l. has-and u s k ∙ and-comm (has u k) (has s k) ∙ ap (λ (x : Bool). has s k && x)
-    (word-has 64 (λ k. any 64 (λ i. has w i && has (getD t i 0) k)) e k l
-    ∙ any-ext 64 _ _ (λ i li.
-    and-comm (has w i) (has (getD t i 0) k) ∙ ap (λ (x : Bool). x && has w i) (sym (has-setOf 64 (λ i. has (getD t i 0) k) i li)))))
+module _ (t : List ℕ) (s : ℕ) where
+  pub entered-is : (w u : ℕ) → s < 2 ^ 64 → u ≡ setOf 64 (λ k. any 64 (λ i. has w i && has (row t i) k)) → bitAnd u s ≡ entered t s w
+  unfolding entered meet col leg
+  entered-is w u h e =
+      eq-setOf 64 (bitAnd u s) _ (omega (arith, and-le-r u s))
+      (λ k l. has-and u s k ∙ and-comm (has u k) (has s k) ∙ ap (λ (x : Bool). has s k && x)
+      (word-has 64 (λ k. any 64 (λ i. has w i && has (row t i) k)) e k l
+      ∙ any-ext 64 _ _ (λ i li.
+      and-comm (has w i) (has (row t i) k) ∙ ap (λ (x : Bool). x && has w i) (sym (has-setOf 64 (λ i. has (row t i) k) i li)))))
 
--- `v & !(1 << i)`: the stations of v other than i
-others : (v i : ℕ) (p : ℕ → Bool) → v < 2 ^ 64 → i < 64 → ((j : ℕ) → j < 64 → has v j && not (eqb i j) ≡ p j)
-    → bitAnd v ((2 ^ 64 - 1) - (1 * 2 ^ i) % 2 ^ 64) ≡ setOf 64 p
-others v i p h l f =
-    ap (λ (x : ℕ). bitAnd v ((2 ^ 64 - 1) - x)) (shl-one 64 i l)
-    ∙ eq-setOf 64 (bitAnd v ((2 ^ 64 - 1) - 2 ^ i)) p (omega (arith, and-le-l v ((2 ^ 64 - 1) - 2 ^ i)))
-    (λ j lj. has-remove 64 v i j l lj ∙ ap (λ (x : Bool). has v j && not x) (eqb-swap j i) ∙ f j lj)
+  -- the stations of s that the component w joins i to
+  module _ (w i : ℕ) where
+    pub joined-some : (v : ℕ) → v ≡ entered t s w → w < 2 ^ 64 → 0 < bitAnd (row t i) w → v ≡ setOf 64 (λ j. has s j && joins 64 t w i j)
+    unfolding entered joins
+    joined-some v e h p = e ∙ setOf-ext 64 _ _ (λ j l. ap (λ (x : Bool). has s j && (x && meet 64 (col 64 t j) w)) (sym (meet-some (row t i) w h p)))
 
-pub through-some : (t : List ℕ) (s w v i : ℕ) → i < 64 → has s i ≡ true → v ≡ entered t s w → w < 2 ^ 64 → 0 < bitAnd (getD t i 0) w
-    → bitAnd v ((2 ^ 64 - 1) - (1 * 2 ^ i) % 2 ^ 64) ≡ setOf 64 (through t s w i)
-unfolding entered markAt pair stands
-through-some t s w v i l e q h p =
-    let from : ℕ → Bool = λ j. meet 64 (col 64 t j) w in
-    others v i (through t s w i) (word-lt 64 (λ j. has s j && from j) q) l (λ j lj.
-    ap (λ (x : Bool). x && not (eqb i j)) (word-has 64 (λ j. has s j && from j) q j lj)
-    ∙ taut3 (λ a b c. a && b && not c) (λ a b c. a && not c && b) refl (has s j) (from j) (eqb i j)
-    ∙ ap₂ (λ (x y : Bool). x && has s j && not (eqb i j) && (y && from j)) (sym e) (sym (meet-some (getD t i 0) w h p)))
+    pub joined-none : bitAnd (row t i) w ≡ 0 → 0 ≡ setOf 64 (λ j. has s j && joins 64 t w i j)
+    unfolding joins
+    joined-none z =
+        eq-setOf 64 0 _ (omega arith) (λ j l. has-zero j ∙ sym (
+        ap (λ (x : Bool). has s j && (x && meet 64 (col 64 t j) w)) (meet-none (row t i) w z) ∙ and-false (has s j)))
 
-pub through-none : (t : List ℕ) (s w i : ℕ) → bitAnd (getD t i 0) w ≡ 0 → 0 ≡ setOf 64 (through t s w i)
-unfolding markAt stands
-through-none t s w i z =
-    eq-setOf 64 0 _ (omega arith) (λ j l. has-zero j ∙ sym (
-    ap (λ (x : Bool). pair s i j && (x && meet 64 (col 64 t j) w)) (meet-none (getD t i 0) w z)
-    ∙ taut2 (λ a b. a && false) (λ a b. false) refl (pair s i j) true))
+-- the mark m, bare or of the component at place m - 1
+module _ (t : List ℕ) (s : ℕ) (cs : List ℕ) where
+  pub last-bare : (m : ℕ) → m ≡ 0 → s ≡ lastOf t s cs m
+  last-bare m z = rw z (unfold lastOf in refl)
 
-pub bare-is : (t : List ℕ) (s i : ℕ) → s < 2 ^ 64 → i < 64 → has s i ≡ true
-    → bitAnd (bitAnd (getD t i 0) s) ((2 ^ 64 - 1) - (1 * 2 ^ i) % 2 ^ 64) ≡ setOf 64 (bare t s i)
-unfolding markAt pair stands leg
-bare-is t s i h l e =
-    let r : ℕ = getD t i 0 in
-    others (bitAnd r s) i (bare t s i) (omega (arith, and-le-r r s)) l (λ j lj.
-    ap (λ (x : Bool). x && not (eqb i j)) (has-and r s j)
-    ∙ taut3 (λ a b c. a && b && not c) (λ a b c. b && not c && a) refl (has r j) (has s j) (eqb i j)
-    ∙ ap (λ (x : Bool). x && has s j && not (eqb i j) && has r j) (sym e))
+  pub last-entered : (m : ℕ) → 0 < m → lastOf t s cs m ≡ entered t s (row cs (m - 1))
+  unfolding lastOf
+  last-entered zero p = absurd (omega arith)
+  last-entered (suc c) p = let place : c ≡ suc c - 1 = omega arith in ap (λ (z : ℕ). entered t s (row cs z)) place
+
+  pub reached-bare : (i m : ℕ) → m ≡ 0 → s < 2 ^ 64 → bitAnd (row t i) s ≡ setOf 64 (λ j. has s j && stands 64 t cs i j m)
+  reached-bare i m z h = rw z (unfold stands in unfold leg in (
+      eq-setOf 64 (bitAnd (row t i) s) _ (omega (arith, and-le-r (row t i) s)) (λ j l. has-and (row t i) s j ∙ and-comm (has (row t i) j) (has s j))))
+
+  pub reached-joined : (i m v : ℕ) → 0 < m → v ≡ setOf 64 (λ j. has s j && joins 64 t (row cs (m - 1)) i j)
+      → v ≡ setOf 64 (λ j. has s j && stands 64 t cs i j m)
+  unfolding stands
+  reached-joined i zero v p e = absurd (omega arith)
+  reached-joined i (suc c) v p e =
+      let place : suc c - 1 ≡ c = omega arith in
+      e ∙ ap (λ (z : ℕ). setOf 64 (λ j. has s j && joins 64 t (row cs z) i j)) place
+
+  -- `v & !(1 << i)`: without i these are the heads of the pairs of i
+  pub heads-is : (i m v : ℕ) → i < 64 → has s i ≡ true → v ≡ setOf 64 (λ j. has s j && stands 64 t cs i j m)
+      → bitAnd v ((2 ^ 64 - 1) - (1 * 2 ^ i) % 2 ^ 64) ≡ setOf 64 (λ j. marked 64 t s cs i j m)
+  unfolding marked
+  heads-is i m v l hi e =
+      ap (λ (x : ℕ). bitAnd v ((2 ^ 64 - 1) - x)) (shl-one 64 i l)
+      ∙ eq-setOf 64 (bitAnd v ((2 ^ 64 - 1) - 2 ^ i)) _ (omega (arith, and-le-l v ((2 ^ 64 - 1) - 2 ^ i), word-lt 64 on e))
+      (λ j lj. has-remove 64 v i j l lj
+      ∙ ap₂ (λ (x y : Bool). x && not y) (word-has 64 on e j lj) (eqb-swap j i)
+      ∙ taut3 (λ a b c. (a && b) && not c) (λ a b c. (true && a && not c) && b) refl (has s j) (stands 64 t cs i j m) (eqb i j)
+      ∙ ap (λ (x : Bool). x && has s j && not (eqb i j) && stands 64 t cs i j m) (sym hi))
+    where
+      on : ℕ → Bool
+      on j = has s j && stands 64 t cs i j m
 
 -- ---- the walk over the stations of s, the least first: `on i j` says that the mark stands on the pair (i, j), as it does for stations i of s alone
 

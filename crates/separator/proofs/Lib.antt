@@ -1,6 +1,8 @@
 -- The rule of one level is sound, and the code of neighbours, levels, components, marks and the level is exact.
 pub mod ComponentLaws
+pub mod ConnectedLaws
 pub mod ChooseLaws
+pub mod MarkingLaws
 pub mod Excursion
 pub mod RoundChoice
 pub mod Separator

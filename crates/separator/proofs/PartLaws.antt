@@ -1,25 +1,28 @@
 -- Components found one after the other, as the code finds them. Assumes nothing.
-use mathlib.Core.Path.{_≡_, refl, sym, ap, ap₂, _∙_}
+use mathlib.Core.Path.{_≡_, refl, sym, ap, ap₂, _∙_, subst}
 use mathlib.Core.Bool.{Bool, true, not, _&&_}
-use mathlib.Core.List.{List, [], _∷_, _++_}
-use Prim.Native.Nat.{ℕ, zero, suc, _+_, _-_, _^_, _≤_, _<_}
+use mathlib.Core.List.{List, [], _∷_}
+use Prim.Native.Nat.{ℕ, zero, suc, _+_, _-_, _^_, _≤_, _<_, zero-le, suc-le-suc}
 use native.Mathlib.Nat.{sub-zero}
 use native.Mathlib.Omega.{arith}
 use lib.Bits.{bitAnd, and-le-l}
 use lib.Count.{ones, ones-le, trailingZeros}
-use lib.ListN.{length, take, set}
+use lib.Dec.{eqb}
+use lib.ListN.{length, set, replicate}
 use borrow.Author.Tests.{ne-eqb}
 use Rattle.bitset.specs.Sets.{has, first, minus}
 use Rattle.bitset.specs.inner.Members.{Least}
-use Rattle.bitset.proofs.BoolLaws.{and-l, cond-false}
+use Rattle.bitset.proofs.BoolLaws.{and-l, cond-false, cond-elim}
 use Rattle.bitset.proofs.FirstLaws.{first-at, before-first}
 use Rattle.bitset.proofs.SetLaws.{has-diff}
 use Rattle.bitset.proofs.OnesLaws.{ones-strict}
 use Rattle.bitset.proofs.LeastLaws.{trailing-least}
 use Rattle.bitset.proofs.MachineLaws.{least-unique}
-use Rattle.separator.specs.Components.{grow, componentsFrom}
+use Rattle.circuit.specs.Legs.{neighbours}
+use Rattle.separator.specs.Components.{grow, componentsFrom, components}
+use Rattle.separator.specs.inner.Reach.{Listed}
 use Rattle.separator.proofs.WidthLaws.{wide, member-below, minus-of}
-use Rattle.separator.proofs.ArrayLaws.{written-more, written-all}
+use Rattle.separator.proofs.ArrayLaws.{Writing, writing-start, writing-turn, writing-end}
 
 -- the first of the n stations in a set is the one that `trailing_zeros` finds
 first-is : (n rest : ℕ) → n ≤ 64 → 0 < rest → rest < 2 ^ n → first n (has rest) ≡ trailingZeros 64 rest
@@ -51,23 +54,32 @@ module _ (n : ℕ) (R : ℕ → ℕ → Bool) (room : ℕ) where
   parts-none zero = refl
   parts-none (suc f) = refl
 
+  parts-most : (f rest : ℕ) → length (list f rest) ≤ f
+  unfolding componentsFrom
+  parts-most zero rest = zero-le
+  parts-most (suc f) rest = cond-elim (λ (ls : List ℕ). length ls ≤ suc f) (eqb rest 0) [] _ (λ _. zero-le) (λ _. suc-le-suc (parts-most f _))
+
   -- `count` components are found, and `rest` has the stations of none of them
   pub record Listing (part : List ℕ) (count rest : ℕ) : Type 0 where
     pub below : rest < 2 ^ n
-    pub whole : take count part ++ list (n - count) rest ≡ list n room
+    pub written : Writing (list n room) part count (list (n - count) rest)
     pub enough : count + ones rest ≤ n
 
-  pub listing-start : (part : List ℕ) → room < 2 ^ n → Listing part 0 room
-  listing-start part h =
-      record { below = h; whole = ap (λ (f : ℕ). list f room) (sub-zero n); enough = omega (arith, ones-le n room h) }
+  pub listing-start : room < 2 ^ n → Listing (replicate 64 0) 0 room
+  listing-start h =
+      record {
+        below = h;
+        written = subst (λ (f : ℕ). Writing (list n room) (replicate 64 0) 0 (list f room)) (sym (sub-zero n)) (writing-start (list n room));
+        enough = omega (arith, ones-le n room h);
+      }
 
   module _ {part : List ℕ} {count rest : ℕ} (g : Listing part count rest) where
-    pub listing-turn : (c : ℕ) → n ≤ 64 → 0 < rest → count < length part → c < 2 ^ 64 → has c (trailingZeros 64 rest) ≡ true
+    pub listing-turn : (c : ℕ) → n ≤ 64 → 0 < rest → c < 2 ^ 64 → has c (trailingZeros 64 rest) ≡ true
         → c ≡ grow n n R room (2 ^ trailingZeros 64 rest) → Listing (set part count c) (count + 1) (bitAnd rest ((2 ^ 64 - 1) - c))
-    listing-turn c top p h hc member e =
+    listing-turn c top p hc member e =
         record {
           below = omega (arith, and-le-l rest ((2 ^ 64 - 1) - c), g .below);
-          whole = written-more part count (list n room) c (list (n - count) rest) (list f (bitAnd rest ((2 ^ 64 - 1) - c))) h more (g .whole);
+          written = writing-turn (g .written) c (list f (bitAnd rest ((2 ^ 64 - 1) - c))) (omega (arith, g .enough, less)) more;
           enough = omega (arith, g .enough, less);
         }
       where
@@ -92,5 +104,10 @@ module _ (n : ℕ) (R : ℕ → ℕ → Bool) (room : ℕ) where
             ∙ parts-more f rest c p grown
             ∙ ap (λ (x : ℕ). c ∷ list f x) (sym (minus-of rest c top (g .below) hc))
 
-    pub listing-end : rest ≡ 0 → take count part ≡ list n room
-    listing-end z = written-all part count (list n room) (list (n - count) rest) (ap (list (n - count)) z ∙ parts-none (n - count)) (g .whole)
+    pub listing-end : rest ≡ 0 → n ≤ 64 → Listed (list n room) part count
+    listing-end z top = writing-end (g .written) (omega (arith, g .enough)) (ap (list (n - count)) z ∙ parts-none (n - count))
+
+-- there are at most n components
+pub components-most : (n : ℕ) (t : List ℕ) (s : ℕ) → length (components n t s) ≤ n
+unfolding components
+components-most n t s = parts-most n (neighbours t) _ n _

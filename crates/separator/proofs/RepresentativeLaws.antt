@@ -3,17 +3,16 @@
 use mathlib.Core.Path.{_≡_, refl, sym, ap, _∙_, subst}
 use mathlib.Core.Bool.{Bool, true, false, cond, _&&_}
 use Prim.Native.Nat.{ℕ, zero, suc, _≤_, _<_, suc-le-suc}
-use native.Mathlib.Nat.{le-of-suc-le-suc, not-suc-le-zero, zero-lt-suc}
+use native.Mathlib.Nat.{le-of-suc-le-suc, not-suc-le-zero}
 use native.Mathlib.Omega.{arith}
-use lib.Dec.{eqb, ltb}
-use borrow.Author.Tests.{eq-eqb, eqb-true, ltb-true, lt-ltb}
-use Rattle.bitset.specs.Sets.{has, setOf, any, first}
+use lib.Dec.{eqb}
+use borrow.Author.Tests.{eq-eqb, eqb-true}
+use Rattle.bitset.specs.Sets.{has, any, first}
 use Rattle.bitset.proofs.BoolLaws.{and-intro, and-l, and-r}
 use Rattle.bitset.proofs.QuantLaws.{any-intro, any-elim}
 use Rattle.bitset.proofs.FirstLaws.{first-at}
-use Rattle.bitset.proofs.SetLaws.{has-setOf, setOf-elim}
-use Rattle.separator.specs.Level.{Marking, choice}
-use Rattle.separator.proofs.ChooseLaws.{Found, choose-found, choose-gives}
+use Rattle.separator.specs.Level.{choice}
+use Rattle.separator.proofs.ChooseLaws.{Found, needed, needed-in, needed-low, choice-chosen, chosen-choice}
 
 -- distinct representatives: each component below p has a station of its own that can take it
 pub record Representatives (Can : ℕ → ℕ → Type 0) (p : ℕ) : Type 0 where
@@ -24,47 +23,27 @@ pub record Representatives (Can : ℕ → ℕ → Type 0) (p : ℕ) : Type 0 whe
 first-any : (m : ℕ) (p : ℕ → Bool) → any m p ≡ true → (first m p < m) × (p (first m p) ≡ true)
 first-any m p e = let k = any-elim m p e in first-at m p (k .0) (k .1) (k .2)
 
-module _ (n s : ℕ) (d : Marking) (may : ℕ → ℕ → ℕ → Bool) where
+module _ (n s p : ℕ) (may : ℕ → ℕ → ℕ → Bool) where
   -- each station of s has a mark on one of its pairs
   abbrev pub AllMarked : Type 0
-  AllMarked = (x : ℕ) → x < n → has s x ≡ true → any n (λ y. any (suc (d .last)) (may x y)) ≡ true
+  AllMarked = (x : ℕ) → x < n → has s x ≡ true → any n (λ y. any (suc p) (may x y)) ≡ true
 
   -- x is a station of s that can take the component c
   abbrev pub CanTake : ℕ → ℕ → Type 0
   CanTake c x = (x < n) × (has s x ≡ true) × (any n (λ y. may x y (suc c)) ≡ true)
 
-  -- the marks of the components, all of which a choice uses
-  needed : ℕ
-  needed = setOf (suc (d .last)) (λ m. ltb 0 m)
-
-  needed-in : (c : ℕ) → c < d .last → has needed (suc c) ≡ true
-  unfolding needed
-  needed-in c l = has-setOf (suc (d .last)) (λ m. ltb 0 m) (suc c) (suc-le-suc l) ∙ lt-ltb 0 (suc c) (zero-lt-suc c)
-
-  needed-low : (m : ℕ) → has needed m ≡ true → (m < suc (d .last)) × (0 < m)
-  unfolding needed
-  needed-low m e = let r = setOf-elim (suc (d .last)) (λ m. ltb 0 m) m e in (r .0, ltb-true 0 m (r .1))
-
   abbrev Chosen : Type 0
-  Chosen = Found n n s (d .last) may needed
-
-  choice-chosen : choice n s d may ≡ true → Chosen
-  unfolding choice needed
-  choice-chosen e = choose-gives n s (d .last) may n needed (λ c f. needed-low c f .0) e
-
-  chosen-choice : Chosen → choice n s d may ≡ true
-  unfolding choice needed
-  chosen-choice C = choose-found n s (d .last) may n needed C
+  Chosen = Found n n s p may (needed p)
 
   -- ---- a choice has marks and representatives
 
   chosen-marked : Chosen → AllMarked
   chosen-marked C x l e =
       let r = C .stands x l e in
-      any-intro n (λ y. any (suc (d .last)) (may x y)) (C .other x) (r .0)
-      (any-intro (suc (d .last)) (may x (C .other x)) (C .mark x) (suc-le-suc (r .1)) (r .2))
+      any-intro n (λ y. any (suc p) (may x y)) (C .other x) (r .0)
+      (any-intro (suc p) (may x (C .other x)) (C .mark x) (suc-le-suc (r .1)) (r .2))
 
-  chosen-apart : Chosen → Representatives CanTake (d .last)
+  chosen-apart : Chosen → Representatives CanTake p
   chosen-apart C =
       record {
         of = of;
@@ -81,9 +60,9 @@ module _ (n s : ℕ) (d : Marking) (may : ℕ → ℕ → ℕ → Bool) where
       of : ℕ → ℕ
       of c = first n (takes c)
 
-      taker : (c : ℕ) → c < d .last → (of c < n) × (has s (of c) ≡ true) × (C .mark (of c) ≡ suc c)
+      taker : (c : ℕ) → c < p → (of c < n) × (has s (of c) ≡ true) × (C .mark (of c) ≡ suc c)
       taker c l =
-          let u = C .used (suc c) (needed-in c l) in
+          let u = C .used (suc c) (needed-in p c l) in
           let r = first-at n (takes c) (u .0) (u .1) (and-intro (u .2) (eq-eqb (C .mark (u .0)) (suc c) (u .3))) in
           let x : ℕ = of c in
           let its : Bool = eqb (C .mark x) (suc c) in
@@ -91,7 +70,7 @@ module _ (n s : ℕ) (d : Marking) (may : ℕ → ℕ → ℕ → Bool) where
 
   -- ---- marks and representatives make a choice: a representative takes its component, any other station the first mark that it has
 
-  apart-chosen : AllMarked → Representatives CanTake (d .last) → Chosen
+  apart-chosen : AllMarked → Representatives CanTake p → Chosen
   apart-chosen M R =
       record {
         other = λ x. other x (taken x);
@@ -104,45 +83,45 @@ module _ (n s : ℕ) (d : Marking) (may : ℕ → ℕ → ℕ → Bool) where
       represents x c = eqb (R .of c) x
 
       taken : ℕ → Bool
-      taken x = any (d .last) (represents x)
+      taken x = any p (represents x)
 
       component : ℕ → ℕ
-      component x = first (d .last) (represents x)
+      component x = first p (represents x)
 
       partner : ℕ → ℕ
-      partner x = first n (λ y. any (suc (d .last)) (may x y))
+      partner x = first n (λ y. any (suc p) (may x y))
 
       other : ℕ → Bool → ℕ
       other x b = cond b (first n (λ y. may x y (suc (component x)))) (partner x)
 
       mark : ℕ → Bool → ℕ
-      mark x b = cond b (suc (component x)) (first (suc (d .last)) (may x (partner x)))
+      mark x b = cond b (suc (component x)) (first (suc p) (may x (partner x)))
 
       stands : (x : ℕ) → x < n → has s x ≡ true → (b : Bool) → taken x ≡ b
-          → (other x b < n) × (mark x b ≤ d .last) × (may x (other x b) (mark x b) ≡ true)
+          → (other x b < n) × (mark x b ≤ p) × (may x (other x b) (mark x b) ≡ true)
       stands x l e true t =
-          let c = first-any (d .last) (represents x) t in
+          let c = first-any p (represents x) t in
           let can : CanTake (component x) x = subst (CanTake (component x)) (eqb-true (R .of (component x)) x (c .1)) (R .can (component x) (c .0)) in
           let y = first-any n (λ y. may x y (suc (component x))) (can .2) in
           (y .0, c .0, y .1)
       stands x l e false t =
-          let y = first-any n (λ y. any (suc (d .last)) (may x y)) (M x l e) in
-          let m = first-any (suc (d .last)) (may x (partner x)) (y .1) in
+          let y = first-any n (λ y. any (suc p) (may x y)) (M x l e) in
+          let m = first-any (suc p) (may x (partner x)) (y .1) in
           (y .0, le-of-suc-le-suc (m .0), m .1)
 
-      used : (m : ℕ) → has needed m ≡ true → (x : ℕ) × (x < n) × (has s x ≡ true) × (mark x (taken x) ≡ m)
-      used zero e = absurd (not-suc-le-zero (needed-low 0 e .1))
+      used : (m : ℕ) → has (needed p) m ≡ true → (x : ℕ) × (x < n) × (has s x ≡ true) × (mark x (taken x) ≡ m)
+      used zero e = absurd (not-suc-le-zero (needed-low p 0 e .1))
       used (suc c) e =
-          let l : c < d .last = le-of-suc-le-suc (needed-low (suc c) e .0) in
+          let l : c < p = le-of-suc-le-suc (needed-low p (suc c) e .0) in
           let x = R .of c in
           let can = R .can c l in
-          let t : taken x ≡ true = any-intro (d .last) (represents x) c l (eq-eqb x x refl) in
-          let b = first-any (d .last) (represents x) t in
+          let t : taken x ≡ true = any-intro p (represents x) c l (eq-eqb x x refl) in
+          let b = first-any p (represents x) t in
           (x, can .0, can .1, ap (mark x) t ∙ ap suc (R .apart (component x) c (b .0) l (eqb-true (R .of (component x)) x (b .1))))
 
   -- the theorem
-  pub choice-gives : choice n s d may ≡ true → AllMarked × Representatives CanTake (d .last)
-  choice-gives e = let C = choice-chosen e in (chosen-marked C, chosen-apart C)
+  pub choice-gives : choice n s p may ≡ true → AllMarked × Representatives CanTake p
+  choice-gives e = let C = choice-chosen n s p may e in (chosen-marked C, chosen-apart C)
 
-  pub choice-found : AllMarked → Representatives CanTake (d .last) → choice n s d may ≡ true
-  choice-found M R = chosen-choice (apart-chosen M R)
+  pub choice-found : AllMarked → Representatives CanTake p → choice n s p may ≡ true
+  choice-found M R = chosen-choice n s p may (apart-chosen M R)

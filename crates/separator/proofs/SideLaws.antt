@@ -1,6 +1,6 @@
 -- One side of a level, out or in: its words, gathered component by component, and their assignment. Assumes nothing.
-use mathlib.Core.Path.{_≡_, sym, ap, ap₂, _∙_, subst}
-use mathlib.Core.Logic.{inl, inr, ⊎-elim}
+use mathlib.Core.Path.{_≡_, refl, sym, ap, ap₂, _∙_, subst}
+use mathlib.Core.Logic.{⊎-elim}
 use mathlib.Core.Bool.{Bool, true, false, not, _&&_, _||_, or-comm, or-false, false≢true}
 use mathlib.Core.List.{List}
 use Prim.Native.Nat.{ℕ, suc, _-_, _^_, _≤_, _<_}
@@ -25,9 +25,9 @@ use Rattle.separator.proofs.EndsLaws.{word-lt, word-has}
 -- ---- gathering: the bare marks first, then one component after the other
 
 module _ (may : ℕ → ℕ → ℕ → Bool) where
-  -- the stations with the mark m
-  marked : ℕ → ℕ → Bool
-  marked m x = any 64 (λ y. may x y m)
+  -- the station x has the mark m on one of its pairs
+  bears : ℕ → ℕ → Bool
+  bears m x = any 64 (λ y. may x y m)
 
   pub side-start : (fits : List ℕ) (some : ℕ) → length fits ≡ 64 → some ≡ setOf 64 (λ x. any 64 (λ y. may x y 0)) → Side may 0 fits some
   unfolding any
@@ -39,19 +39,22 @@ module _ (may : ℕ → ℕ → ℕ → Bool) where
       }
 
   pub side-more : (c : ℕ) (fits : List ℕ) (some w d : ℕ) → Side may c fits some → c < 64
-      → w ≡ setOf 64 (λ x. any 64 (λ y. may x y (suc c))) → d ≡ suc c → Side may d (set fits c w) (bitOr some w)
-  unfolding any marked
-  side-more c fits some w d S l e q = subst (λ (n : ℕ). Side may n (set fits c w) (bitOr some w)) (sym q) more
+      → w ≡ setOf 64 (λ x. any 64 (λ y. may x y d)) → d ≡ suc c → Side may d (set fits c w) (bitOr some w)
+  unfolding any bears
+  side-more c fits some w d S l is q = subst (λ (n : ℕ). Side may n (set fits c w) (bitOr some w)) (sym q) more
     where
-      any-before : ℕ → Bool
-      any-before x = any (suc c) (λ m. marked m x)
+      e : w ≡ setOf 64 (bears (suc c))
+      e = is ∙ ap (λ (m : ℕ). setOf 64 (bears m)) q
 
-      component : (b : ℕ) → b < suc c → getD (set fits c w) b 0 ≡ setOf 64 (marked (suc b))
+      any-before : ℕ → Bool
+      any-before x = any (suc c) (λ m. bears m x)
+
+      component : (b : ℕ) → b < suc c → getD (set fits c w) b 0 ≡ setOf 64 (bears (suc b))
       component b lb =
           ⊎-elim
           (λ (z : b ≡ c).
           ap (λ (n : ℕ). getD (set fits c w) n 0) z ∙ getD-set-same fits c w 0 (omega (arith, S .size)) ∙ e
-          ∙ ap (λ (n : ℕ). setOf 64 (marked (suc n))) (sym z))
+          ∙ ap (λ (n : ℕ). setOf 64 (bears (suc n))) (sym z))
           (λ (g : b < c). getD-set-other fits c b w 0 (λ z. omega arith) ∙ S .component b g)
           (at-or-below lb)
 
@@ -61,11 +64,11 @@ module _ (may : ℕ → ℕ → ℕ → Bool) where
             size = length-set fits c w ∙ S .size;
             component = component;
             any-mark =
-                eq-setOf 64 (bitOr some w) (λ x. any (suc (suc c)) (λ m. marked m x))
-                (or-lt 64 some w (word-lt 64 any-before (S .any-mark)) (word-lt 64 (marked (suc c)) e))
+                eq-setOf 64 (bitOr some w) (λ x. any (suc (suc c)) (λ m. bears m x))
+                (or-lt 64 some w (word-lt 64 any-before (S .any-mark)) (word-lt 64 (bears (suc c)) e))
                 (λ x lx. has-or some w x
-                ∙ ap₂ (λ (a b : Bool). a || b) (word-has 64 any-before (S .any-mark) x lx) (word-has 64 (marked (suc c)) e x lx)
-                ∙ or-comm (any-before x) (marked (suc c) x));
+                ∙ ap₂ (λ (a b : Bool). a || b) (word-has 64 any-before (S .any-mark) x lx) (word-has 64 (bears (suc c)) e x lx)
+                ∙ or-comm (any-before x) (bears (suc c) x));
           }
 
   -- only stations of s have marks, so the words lie in s
@@ -95,15 +98,22 @@ covered s w hs hw e x i =
     within-of-diff 64 s w hw e x (omega arith) i
 
 module _ (fits : List ℕ) (p s some : ℕ) (hs : s < 2 ^ 64) (hw : some < 2 ^ 64) where
-  pub settled-unmarked : (spare : ℕ) → 0 < bitAnd s ((2 ^ 64 - 1) - some) → Settled fits p s some false spare
-  settled-unmarked spare h = record { yes = λ e. absurd (false≢true e); no = λ e. inl (missing s some hs hw h) }
+  pub settled-unmarked : 0 < bitAnd s ((2 ^ 64 - 1) - some) → Settled fits p s some false 0
+  settled-unmarked h =
+      let (x, i, z) = missing s some hs hw h in
+      record {
+        both = record { holds = λ e. absurd (false≢true e); found = λ (M, a). absurd (not-both (M x i) z) };
+        left = λ e. absurd (false≢true e);
+        empty = λ _. refl;
+      }
 
   pub settled-assigned : (complete : Bool) (spare : ℕ) → bitAnd s ((2 ^ 64 - 1) - some) ≡ 0 → Exact fits p s complete spare
       → Settled fits p s some complete spare
   settled-assigned complete spare z E =
       record {
-        yes = λ e. (covered s some hs hw z, subst (λ (b : Bool). Exact fits p s b spare) e E);
-        no = λ e. inr (subst (λ (b : Bool). Exact fits p s b spare) e E);
+        both = record { holds = λ e. (covered s some hs hw z, E .some .holds e); found = λ (M, a). E .some .found a };
+        left = E .left;
+        empty = E .empty;
       }
 
 pub settled-at : {fits : List ℕ} {p q s some : ℕ} {complete : Bool} {spare : ℕ} → Settled fits p s some complete spare → p ≡ q

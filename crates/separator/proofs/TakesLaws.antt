@@ -11,12 +11,12 @@ use borrow.Author.Tests.{eq-eqb, ne-eqb, eqb-true, eqb-false, not-true}
 use Rattle.bitset.specs.Sets.{has, any}
 use Rattle.bitset.proofs.BoolLaws.{not-both, cases, and-intro, and-l, and-r, or-l, or-r, or-cases}
 use Rattle.bitset.proofs.QuantLaws.{any-intro, any-elim}
-use Rattle.separator.specs.Level.{Marking, choice, takes}
+use Rattle.separator.specs.Level.{choice, takes}
 use Rattle.separator.proofs.RepresentativeLaws.{Representatives, AllMarked, CanTake, choice-gives, choice-found}
 
-module _ (n s : ℕ) (d : Marking) (may : ℕ → ℕ → ℕ → Bool) (x y : ℕ) where
+module _ (n s p : ℕ) (may : ℕ → ℕ → ℕ → Bool) (x y : ℕ) where
   abbrev HasMark : (ℕ → ℕ → ℕ → Bool) → ℕ → Type 0
-  HasMark on a = any n (λ b. any (suc (d .last)) (on a b)) ≡ true
+  HasMark on a = any n (λ b. any (suc p) (on a b)) ≡ true
 
   -- ---- the relation: x takes y bare, the others are as they were
 
@@ -42,11 +42,11 @@ module _ (n s : ℕ) (d : Marking) (may : ℕ → ℕ → ℕ → Bool) (x y : �
 
   -- ---- the theorem
 
-  pub takes-gives : x < n → has s x ≡ true → choice n s d (takes x y may) ≡ true
-      → (may x y 0 ≡ true) × AllMarked n s d may
-      × (R : Representatives (CanTake n s d may) (d .last)) × ((c : ℕ) → c < d .last → R .of c ≡ x → ⊥)
+  pub takes-gives : x < n → has s x ≡ true → choice n s p (takes x y may) ≡ true
+      → (may x y 0 ≡ true) × AllMarked n s p may
+      × (R : Representatives (CanTake n s p may) p) × ((c : ℕ) → c < p → R .of c ≡ x → ⊥)
   takes-gives l i e =
-      let r = choice-gives n s d (takes x y may) e in
+      let r = choice-gives n s p (takes x y may) e in
       let R = r .1 in (
         bare (r .0 x l i),
         λ a la ia. marked a (r .0 a la ia),
@@ -56,33 +56,33 @@ module _ (n s : ℕ) (d : Marking) (may : ℕ → ℕ → ℕ → Bool) (x y : �
     where
       bare : HasMark (takes x y may) x → may x y 0 ≡ true
       bare f =
-          let b = any-elim n (λ b. any (suc (d .last)) (takes x y may x b)) f in
-          let m = any-elim (suc (d .last)) (takes x y may x (b .0)) (b .2) in
+          let b = any-elim n (λ b. any (suc p) (takes x y may x b)) f in
+          let m = any-elim (suc p) (takes x y may x (b .0)) (b .2) in
           let q = takes-only x (b .0) (m .0) (m .2) refl in
           ap₂ (may x) (sym (q .0)) (sym (q .1)) ∙ takes-may x (b .0) (m .0) (m .2)
 
       marked : (a : ℕ) → HasMark (takes x y may) a → HasMark may a
       marked a f =
-          let b = any-elim n (λ b. any (suc (d .last)) (takes x y may a b)) f in
-          let m = any-elim (suc (d .last)) (takes x y may a (b .0)) (b .2) in
-          any-intro n (λ b. any (suc (d .last)) (may a b)) (b .0) (b .1)
-          (any-intro (suc (d .last)) (may a (b .0)) (m .0) (m .1) (takes-may a (b .0) (m .0) (m .2)))
+          let b = any-elim n (λ b. any (suc p) (takes x y may a b)) f in
+          let m = any-elim (suc p) (takes x y may a (b .0)) (b .2) in
+          any-intro n (λ b. any (suc p) (may a b)) (b .0) (b .1)
+          (any-intro (suc p) (may a (b .0)) (m .0) (m .1) (takes-may a (b .0) (m .0) (m .2)))
 
-      can : (c a : ℕ) → CanTake n s d (takes x y may) c a → CanTake n s d may c a
+      can : (c a : ℕ) → CanTake n s p (takes x y may) c a → CanTake n s p may c a
       can c a (la, ia, f) =
           let b = any-elim n (λ b. takes x y may a b (suc c)) f in
           (la, ia, any-intro n (λ b. may a b (suc c)) (b .0) (b .1) (takes-may a (b .0) (suc c) (b .2)))
 
-      not-x : (c a : ℕ) → CanTake n s d (takes x y may) c a → a ≡ x → ⊥
+      not-x : (c a : ℕ) → CanTake n s p (takes x y may) c a → a ≡ x → ⊥
       not-x c a (la, ia, f) q =
           let b = any-elim n (λ b. takes x y may a b (suc c)) f in
           let z : suc c ≡ 0 = takes-only a (b .0) (suc c) (b .2) q .1 in
           omega arith
 
-  pub takes-found : y < n → may x y 0 ≡ true → AllMarked n s d may
-      → (R : Representatives (CanTake n s d may) (d .last)) → ((c : ℕ) → c < d .last → R .of c ≡ x → ⊥) → choice n s d (takes x y may) ≡ true
+  pub takes-found : y < n → may x y 0 ≡ true → AllMarked n s p may
+      → (R : Representatives (CanTake n s p may) p) → ((c : ℕ) → c < p → R .of c ≡ x → ⊥) → choice n s p (takes x y may) ≡ true
   takes-found l e M R out =
-      choice-found n s d (takes x y may)
+      choice-found n s p (takes x y may)
       (λ a la ia. ⊎-elim
       (λ q. subst (HasMark (takes x y may)) (sym (eqb-true a x q)) here)
       (λ q. other a (eqb-false a x q) (M a la ia))
@@ -91,17 +91,17 @@ module _ (n s : ℕ) (d : Marking) (may : ℕ → ℕ → ℕ → Bool) (x y : �
     where
       here : HasMark (takes x y may) x
       here =
-          any-intro n (λ b. any (suc (d .last)) (takes x y may x b)) y l
-          (any-intro (suc (d .last)) (takes x y may x y) 0 (zero-lt-suc (d .last)) (takes-here e))
+          any-intro n (λ b. any (suc p) (takes x y may x b)) y l
+          (any-intro (suc p) (takes x y may x y) 0 (zero-lt-suc p) (takes-here e))
 
       other : (a : ℕ) → (a ≡ x → ⊥) → HasMark may a → HasMark (takes x y may) a
       other a ne f =
-          let b = any-elim n (λ b. any (suc (d .last)) (may a b)) f in
-          let m = any-elim (suc (d .last)) (may a (b .0)) (b .2) in
-          any-intro n (λ b. any (suc (d .last)) (takes x y may a b)) (b .0) (b .1)
-          (any-intro (suc (d .last)) (takes x y may a (b .0)) (m .0) (m .1) (takes-else a (b .0) (m .0) ne (m .2)))
+          let b = any-elim n (λ b. any (suc p) (may a b)) f in
+          let m = any-elim (suc p) (may a (b .0)) (b .2) in
+          any-intro n (λ b. any (suc p) (takes x y may a b)) (b .0) (b .1)
+          (any-intro (suc p) (takes x y may a (b .0)) (m .0) (m .1) (takes-else a (b .0) (m .0) ne (m .2)))
 
-      can : (c a : ℕ) → (a ≡ x → ⊥) → CanTake n s d may c a → CanTake n s d (takes x y may) c a
+      can : (c a : ℕ) → (a ≡ x → ⊥) → CanTake n s p may c a → CanTake n s p (takes x y may) c a
       can c a ne (la, ia, f) =
           let b = any-elim n (λ b. may a b (suc c)) f in
           (la, ia, any-intro n (λ b. takes x y may a b (suc c)) (b .0) (b .1) (takes-else a (b .0) (suc c) ne (b .2)))

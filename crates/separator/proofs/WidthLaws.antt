@@ -20,8 +20,9 @@ use Rattle.bitset.proofs.OnesLaws.{ones-disjoint}
 use Rattle.bitset.proofs.MachineLaws.{full-setOf}
 use Rattle.bitset.specs.Upto.{row}
 use Rattle.circuit.specs.Legs.{leg, col, neighbours}
+use Rattle.circuit.proofs.LegsLaws.{row-in}
 use Rattle.separator.specs.Levels.{neighbourhood}
-use Rattle.separator.specs.inner.Linked.{Linked}
+use Rattle.separator.specs.inner.Reach.{Linked}
 
 pub wide : {n w : ℕ} → n ≤ 64 → w < 2 ^ n → w < 2 ^ 64
 wide l h = lt-of-lt-of-le h (pow-mono l)
@@ -64,6 +65,9 @@ neighbours-of n i t h =
     eq-setOf n (bitOr (row t i) c) (λ j. has (row t i) j || has (row t j) i) (or-lt n (row t i) c h (setOf-lt n (λ j. has (row t j) i)))
     (λ j l. has-or (row t i) c j ∙ ap (λ (b : Bool). has (row t i) j || b) (has-setOf n (λ j. has (row t j) i) j l))
 
+pub linked-word : {n : ℕ} {t nbr : List ℕ} → Linked n t nbr → (i : ℕ) → i < n → row nbr i ≡ setOf n (neighbours t i)
+linked-word {n} {t} {nbr} d i l = ap (λ (x : List ℕ). row x i) (d .table) ∙ row-in n (neighbours t) i (d .most) l
+
 -- some station of w leads to j by the relation R
 abbrev pub leads : ℕ → (ℕ → ℕ → Bool) → ℕ → ℕ → Bool
 leads n R w j = any n (λ i. has w i && R i j)
@@ -88,7 +92,7 @@ neighbourhood-of {n} {t} {nbr} w out d hw ho bits =
         let (i, li, ei) = any-elim 64 (λ i. has w i && has (row nbr i) k) e in
         let hi = and-l (has w i) (has (row nbr i) k) ei in
         let low = member-below n w i hw hi in
-        let m = setOf-elim n (neighbours t i) k (ap (λ (x : ℕ). has x k) (sym (d .words i low)) ∙ and-r (has w i) (has (row nbr i) k) ei) in
+        let m = setOf-elim n (neighbours t i) k (ap (λ (x : ℕ). has x k) (sym (linked-word d i low)) ∙ and-r (has w i) (has (row nbr i) k) ei) in
         has-setOf n joined k (m .0) ∙ any-intro n (λ j. has w j && neighbours t j k) i low (and-intro hi (m .1))
 
     back : (k : ℕ) → has (setOf n joined) k ≡ true → hit nbr w k ≡ true
@@ -97,7 +101,7 @@ neighbourhood-of {n} {t} {nbr} w out d hw ho bits =
         let (i, li, ei) = any-elim n (λ i. has w i && neighbours t i k) (m .1) in
         any-intro 64 (λ j. has w j && has (row nbr j) k) i (lt-of-lt-of-le li (d .most))
         (and-intro (and-l (has w i) (neighbours t i k) ei)
-        (ap (λ (x : ℕ). has x k) (d .words i li) ∙ has-setOf n (neighbours t i) k (m .0) ∙ and-r (has w i) (neighbours t i k) ei))
+        (ap (λ (x : ℕ). has x k) (linked-word d i li) ∙ has-setOf n (neighbours t i) k (m .0) ∙ and-r (has w i) (neighbours t i k) ei))
 
 pub neighbourhood-lt : (n : ℕ) (t : List ℕ) (w : ℕ) → neighbourhood n t w < 2 ^ n
 unfolding neighbourhood

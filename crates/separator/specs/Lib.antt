@@ -2,5 +2,6 @@
 pub mod Choice
 pub mod Levels
 pub mod Components
+pub mod Connected
 pub mod Level
 pub mod inner

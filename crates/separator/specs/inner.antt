@@ -1,4 +1,4 @@
 -- What the functions promise each other.
-pub mod Linked
+pub mod Reach
 pub mod Spares
 pub mod Strike

@@ -1,19 +1,22 @@
-// One level s: the marks on its pairs of stations, the choices that use every component, and the legs that go.
+// One level s: the marks on its pairs of stations, the choices that use every component, and the legs that go. Mark 0 is bare, and mark c + 1 the
+// component at place c of `parts`.
 ghost use mathlib.Core.Path.{_≡_};
-ghost use mathlib.Core.Bool.{true, false};
+ghost use mathlib.Core.Bool.{true, false, _&&_};
 ghost use Prim.Native.Nat.{ℕ, _^_, _<_, _≤_};
-ghost use lib.ListN.{length, take};
+ghost use lib.ListN.{length};
 ghost use Rattle.bitset.specs.Sets.{has, setOf};
 ghost use Rattle.circuit.specs.State.{stray};
 ghost use Rattle.matching.specs.Matching.{Inside};
 ghost use Rattle.separator.specs.Components.{components};
-ghost use Rattle.separator.specs.inner.Spares.{markAt, through, bare, entered, EndsOf, Side, Settled, SparesOf, cutRow, Cut};
+ghost use Rattle.separator.specs.Level.{joins, stands, marked};
+ghost use Rattle.separator.specs.inner.Reach.{Listed};
+ghost use Rattle.separator.specs.inner.Spares.{entered, lastOf, EndsOf, Side, Settled, SparesOf, cutRow, Cut};
 
 // What one level allows: none, or the stations that some out-choice and some in-choice leave free for a bare leg.
-pub struct Spares {
-    pub none: bool,
-    pub out: u64,
-    pub into: u64,
+pub(crate) struct Spares {
+    pub(crate) none: bool,
+    pub(crate) out: u64,
+    pub(crate) into: u64,
 }
 
 // The tails i and the heads j of the pairs (i, j) on which a mark stands.
@@ -22,61 +25,48 @@ struct Ends {
     heads: u64,
 }
 
-// The stations of s that have a leg from the component.
-fn entered_from(rows: &[u64; 64], s: u64, part: u64) -> u64
-    ensures { λ r. ⌜ r ≡ entered (now (rows .entry)) s part ⌝ }
+// The stations of s in which the mark m can end: for a component, those that have a leg from it.
+fn last_stations(rows: &[u64; 64], s: u64, parts: &[u64; 64], m: usize) -> u64
+    requires { ⌜ m ≤ 64 ⌝ }
+    ensures { λ r. ⌜ r ≡ lastOf (now (rows .entry)) s (now (parts .entry)) m ⌝ }
 {
-    bitset::union_of_rows(rows, part) & s
-}
-
-// The heads of the pairs (i, j) on which the component's mark stands; `last` has the stations that have a leg from the component.
-fn heads_through(rows: &[u64; 64], s: u64, part: u64, last: u64, i: usize) -> u64
-    requires { ⌜ (i < 64) × (has s i ≡ true) × (last ≡ entered (now rows) s part) ⌝ }
-    ensures { λ r. ⌜ r ≡ setOf 64 (through (now (rows .entry)) s part i) ⌝ }
-{
-    if rows[i] & part != 0 {
-        last & !(1u64 << i)
-    } else {
-        0
+    if m == 0 {
+        return s;
     }
+    bitset::union_of_rows(rows, parts[m - 1]) & s
 }
 
-// The heads of the legs i→j inside s.
-fn heads_bare(rows: &[u64; 64], s: u64, i: usize) -> u64
-    requires { ⌜ (i < 64) × (has s i ≡ true) ⌝ }
-    ensures { λ r. ⌜ r ≡ setOf 64 (bare (now (rows .entry)) s i) ⌝ }
+// The stations of s that the component joins i to; `last` has those that have a leg from it.
+fn joined(rows: &[u64; 64], s: u64, part: u64, last: u64, i: usize) -> u64
+    requires { ⌜ (i < 64) × (last ≡ entered (now rows) s part) ⌝ }
+    ensures { λ r. ⌜ r ≡ setOf 64 (λ j. has s j && joins 64 (now (rows .entry)) part i j) ⌝ }
 {
-    rows[i] & s & !(1u64 << i)
+    if rows[i] & part != 0 { last } else { 0 }
 }
 
-// The ends of the pairs on which the component's mark stands.
-fn ends_through(rows: &[u64; 64], s: u64, part: u64) -> Ends
-    ensures { λ r. ⌜ EndsOf (through (now (rows .entry)) s part) (r .tails) (r .heads) ⌝ }
+// The stations j of s for which the mark m stands from i to j.
+fn reached(rows: &[u64; 64], s: u64, parts: &[u64; 64], m: usize, last: u64, i: usize) -> u64
+    requires { ⌜ (i < 64) × (m ≤ 64) × (last ≡ lastOf (now rows) s (now parts) m) ⌝ }
+    ensures { λ r. ⌜ r ≡ setOf 64 (λ j. has s j && stands 64 (now (rows .entry)) (now (parts .entry)) i j m) ⌝ }
 {
-    let last = entered_from(rows, s, part);
+    if m == 0 {
+        return rows[i] & s;
+    }
+    joined(rows, s, parts[m - 1], last, i)
+}
+
+// The ends of the pairs (i, j) on which the mark m stands: i and j are different stations of s.
+fn ends_of(rows: &[u64; 64], s: u64, parts: &[u64; 64], m: usize) -> Ends
+    requires { ⌜ m ≤ 64 ⌝ }
+    ensures { λ r. ⌜ EndsOf (λ i j. marked 64 (now (rows .entry)) s (now (parts .entry)) i j m) (r .tails) (r .heads) ⌝ }
+{
+    let last = last_stations(rows, s, parts, m);
     let mut rest = s;
     let mut tails = 0u64;
     let mut heads = 0u64;
     while rest != 0 {
         let i = u64::trailing_zeros(rest) as usize;
-        let more = heads_through(rows, s, part, last, i);
-        tails = bitset::insert_if(tails, i, more);
-        heads |= more;
-        rest &= rest - 1;
-    }
-    Ends { tails, heads }
-}
-
-// The ends of the legs inside s.
-fn ends_bare(rows: &[u64; 64], s: u64) -> Ends
-    ensures { λ r. ⌜ EndsOf (bare (now (rows .entry)) s) (r .tails) (r .heads) ⌝ }
-{
-    let mut rest = s;
-    let mut tails = 0u64;
-    let mut heads = 0u64;
-    while rest != 0 {
-        let i = u64::trailing_zeros(rest) as usize;
-        let more = heads_bare(rows, s, i);
+        let more = reached(rows, s, parts, m, last, i) & !(1u64 << i);
         tails = bitset::insert_if(tails, i, more);
         heads |= more;
         rest &= rest - 1;
@@ -94,19 +84,19 @@ fn marks(
     into: &mut [u64; 64],
 ) -> Ends
     requires { ⌜ (p ≤ 64) × (length (now out) ≡ 64) × (length (now into) ≡ 64) ⌝ }
-    ensures { λ r. ⌜ Side (markAt (now (rows .entry)) s (now (parts .entry))) p (now (out .exit)) (r .tails)
-        × Side (λ x y. markAt (now (rows .entry)) s (now (parts .entry)) y x) p (now (into .exit)) (r .heads) ⌝ }
+    ensures { λ r. ⌜ Side (marked 64 (now (rows .entry)) s (now (parts .entry))) p (now (out .exit)) (r .tails)
+        × Side (λ x y. marked 64 (now (rows .entry)) s (now (parts .entry)) y x) p (now (into .exit)) (r .heads) ⌝ }
 {
-    let all = ends_bare(rows, s);
-    let mut tails = all.tails;
-    let mut heads = all.heads;
+    let bare = ends_of(rows, s, parts, 0);
+    let mut tails = bare.tails;
+    let mut heads = bare.heads;
     let mut c = 0;
     while c < p {
-        let ends = ends_through(rows, s, parts[c]);
-        out[c] = ends.tails;
-        into[c] = ends.heads;
-        tails |= ends.tails;
-        heads |= ends.heads;
+        let through = ends_of(rows, s, parts, c + 1);
+        out[c] = through.tails;
+        into[c] = through.heads;
+        tails |= through.tails;
+        heads |= through.heads;
         c += 1;
     }
     Ends { tails, heads }
@@ -128,10 +118,10 @@ fn settle(fits: &[u64; 64], p: usize, s: u64, some: u64) -> matching::Assigned
 }
 
 // The spare stations of the level s, out and in; `parts` has the p components outside s, and n is the number of stations of the table.
-pub fn spare_stations(rows: &[u64; 64], s: u64, parts: &[u64; 64], p: usize) -> Spares
-    requires { ⌜ (p ≤ 64) × (length (now parts) ≡ 64) ⌝ }
+pub(crate) fn spare_stations(rows: &[u64; 64], s: u64, parts: &[u64; 64], p: usize) -> Spares
+    requires { ⌜ p ≤ 64 ⌝ }
     ensures { λ r. ⌜ ((n : ℕ) → n ≤ 64 → stray n (now (rows .entry)) ≡ false → s < 2 ^ n
-        → take p (now (parts .entry)) ≡ components n (now (rows .entry)) s → SparesOf n (now (rows .entry)) s r) ⌝ }
+        → Listed (components n (now (rows .entry)) s) (now (parts .entry)) p → SparesOf n (now (rows .entry)) s r) ⌝ }
 {
     let mut out = [0u64; 64];
     let mut into = [0u64; 64];
@@ -158,7 +148,7 @@ fn cut_word(w: u64, s: u64, out: u64, into: u64, i: usize) -> u64
 }
 
 // Cuts the word of every station of s. The rows and the columns of a table stay those of one table if the columns are cut with `out` and `into` swapped.
-pub fn cut(words: &mut [u64; 64], s: u64, out: u64, into: u64)
+pub(crate) fn cut(words: &mut [u64; 64], s: u64, out: u64, into: u64)
     requires { ⌜ length (now words) ≡ 64 ⌝ }
     ensures { λ _. ⌜ Cut s out into (now (words .entry)) (now (words .exit)) ⌝ }
 {

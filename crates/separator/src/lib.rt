@@ -1,7 +1,10 @@
 // One separator: levels from a seed, components outside a level, marks, and the rule of one level.
-pub mod level;
-pub mod reach;
+mod level;
+mod reach;
 
+pub use reach::Levels;
+pub use reach::levels_from;
+pub use reach::neighbours;
 ghost use denote.Ref.{now};
 ghost use mathlib.Core.Bool.{false};
 ghost use mathlib.Core.Path.{_≡_};

@@ -1,35 +1,34 @@
 // Neighbours, levels from a seed, and components outside a set. A set of stations is a word, bit k for station k.
-// The words of the neighbours are all that levels and components need of a table: `Linked n t nbr` ties them to the n stations of the table t.
+// The words of the neighbours are all that levels and components need of a table. So n and the table t are no parameters: a promise speaks of any n and t
+// with `Linked n t nbr`, words that are the neighbours of the n stations of t. Of other words nothing is said.
 ghost use denote.Ref.{now};
 ghost use mathlib.Core.Bool.{true, not};
 ghost use mathlib.Core.List.{List};
 ghost use mathlib.Core.Path.{_≡_};
 ghost use Prim.Native.Nat.{ℕ, _^_, _<_, _≤_};
-ghost use lib.ListN.{take};
 ghost use Rattle.bitset.specs.Sets.{has, setOf};
-ghost use Rattle.circuit.specs.Legs.{columns, neighbours};
+ghost use Rattle.circuit.specs.Legs.{columns, neighbours, tableOf};
 ghost use Rattle.circuit.specs.inner.Tables.{Square};
 ghost use Rattle.separator.specs.Levels.{neighbourhood, levels};
 ghost use Rattle.separator.specs.Components.{grow, components};
-ghost use Rattle.separator.specs.inner.Linked.{Linked, stationsOf};
+ghost use Rattle.separator.specs.inner.Reach.{Linked, Listed};
 
-// Level k stands at `level[k]`, for k below `count`; `reached` has the stations of all levels.
+// Level k stands at `level[k]`, for k below `count`; the other words are 0.
 pub struct Levels {
     pub level: [u64; 64],
     pub count: usize,
-    pub reached: u64,
 }
 
-// The components stand at the first `count` places, by rising lowest station.
-pub struct Parts {
-    pub part: [u64; 64],
-    pub count: usize,
+// The components stand at the first `count` places, by rising lowest station; the other words are 0.
+pub(crate) struct Parts {
+    pub(crate) part: [u64; 64],
+    pub(crate) count: usize,
 }
 
-// The stations with a leg to or from each station.
+// The stations with a leg to or from each station: words beyond n are 0.
 pub fn neighbours(rows: &[u64; 64], cols: &[u64; 64], n: usize) -> [u64; 64]
     requires { ⌜ (n ≤ 64) × Square n (now rows) × (now cols ≡ columns n (now rows)) ⌝ }
-    ensures { λ r. ⌜ Linked n (now (rows .entry)) r ⌝ }
+    ensures { λ r. ⌜ r ≡ tableOf n (neighbours (now (rows .entry))) ⌝ }
 {
     let mut out = [0u64; 64];
     let mut i = 0usize;
@@ -50,9 +49,7 @@ fn neighbourhood(nbr: &[u64; 64], set: u64) -> u64
 // The levels from a seed: each is the neighbours of the last one that no level has yet.
 pub fn levels_from(nbr: &[u64; 64], seed: usize) -> Levels
     requires { ⌜ seed < 64 ⌝ }
-    ensures { λ r. ⌜ (r .count ≤ 64)
-        × ((n : ℕ) (t : List ℕ) → Linked n t (now (nbr .entry)) → seed < n
-        → (r .count ≤ n) × (take (r .count) (r .level) ≡ levels n t seed) × (r .reached ≡ stationsOf n (levels n t seed))) ⌝ }
+    ensures { λ r. ⌜ ((n : ℕ) (t : List ℕ) → Linked n t (now (nbr .entry)) → seed < n → Listed (levels n t seed) (r .level) (r .count)) ⌝ }
 {
     let mut level = [0u64; 64];
     let mut count = 0usize;
@@ -64,11 +61,7 @@ pub fn levels_from(nbr: &[u64; 64], seed: usize) -> Levels
         last = neighbourhood(nbr, last) & !seen;
         seen |= last;
     }
-    Levels {
-        level,
-        count,
-        reached: seen,
-    }
+    Levels { level, count }
 }
 
 // The component of `start` inside `room`: only the stations that came in last can bring in more.
@@ -87,10 +80,9 @@ fn component(nbr: &[u64; 64], room: u64, start: usize) -> u64
 }
 
 // The components outside a set: `outside` is the stations that are not in it.
-pub fn components_of(nbr: &[u64; 64], outside: u64) -> Parts
-    ensures { λ r. ⌜ (r .count ≤ 64)
-        × ((n : ℕ) (t : List ℕ) (s : ℕ) → Linked n t (now (nbr .entry)) → outside ≡ setOf n (λ k. not (has s k))
-        → (r .count ≤ n) × (take (r .count) (r .part) ≡ components n t s)) ⌝ }
+pub(crate) fn components_of(nbr: &[u64; 64], outside: u64) -> Parts
+    ensures { λ r. ⌜ ((n : ℕ) (t : List ℕ) (s : ℕ) → Linked n t (now (nbr .entry)) → outside ≡ setOf n (λ k. not (has s k))
+        → Listed (components n t s) (r .part) (r .count)) ⌝ }
 {
     let mut part = [0u64; 64];
     let mut count = 0usize;

@@ -1,4 +1,4 @@
--- The bytes of a page: how many there are before a place, and that each is a byte. Assumes nothing.
+-- The bytes of records: how many there are before a place, and that each is a byte. Assumes nothing.
 use mathlib.Core.Path.{_≡_}
 use mathlib.Core.Bool.{Bool}
 use mathlib.Core.List.{List, [], _∷_}
@@ -7,9 +7,8 @@ use Prim.Native.Nat.{ℕ, zero, suc, _+_, _/_, _≤_, _<_}
 use native.Mathlib.Omega.{arith}
 use lib.ListN.{length}
 use Rattle.bitset.proofs.SetLaws.{digit-lt}
-use Rattle.sheet.specs.Layout.{Entry, Page, bytes, present, setBytes, fixedBytes, mapOf, entryBytes, entriesBytes, bytesOf, Each, FixedFits, EntryFits, WellFormed}
+use Rattle.sheet.specs.Layout.{Entry, bytes, present, setBytes, fixedBytes, mapOf, entryBytes, entriesBytes, Each, Bytes, FixedFits, EntryFits}
 use Rattle.sheet.proofs.ReadLaws.{length-bytes}
-use Rattle.sheet.proofs.TakenLaws.{Bytes}
 
 -- ---- how many
 
@@ -52,14 +51,10 @@ map-lt : (a b c : Bool) → mapOf a b c < 256
 unfolding mapOf
 map-lt a b c = omega (arith, digit-lt a, digit-lt b, digit-lt c)
 
-entries-bytes : (n : ℕ) (es : List Entry) → n ≤ 64 → Each (EntryFits n) es → Bytes (entriesBytes es [])
+pub entries-bytes : (n : ℕ) (es : List Entry) → n ≤ 64 → Each (EntryFits n) es → Bytes (entriesBytes es [])
 unfolding entriesBytes entryBytes
 entries-bytes n [] le f = tt
 entries-bytes n (e ∷ es) le f = (
   map-lt (present (e .next)) (present (e .prev)) (present (e .fixed)),
   set-bytes (e .next) _ (set-bytes (e .prev) _ (fixed-bytes n (e .fixed) _ le (f .0 .fixed) (entries-bytes n es le (f .1)))),
 )
-
-pub page-bytes : (p : Page) → WellFormed p → Bytes (bytesOf p)
-unfolding bytesOf
-page-bytes p f = (omega (arith, f .most), entries-bytes (p .stations) (p .entries) (f .most) (f .fits))

@@ -1,45 +1,68 @@
 -- The grammar of the sheet: which byte strings are taken, and what an unknown bit does. Assumes nothing.
-use mathlib.Core.Path.{_≡_, ap, _∙_}
-use mathlib.Core.Bool.{true}
+use mathlib.Core.Path.{_≡_, refl, ap, _∙_}
+use mathlib.Core.Bool.{Bool, true, false, not, cond, _&&_}
 use mathlib.Core.List.{List, [], _∷_}
-use Prim.Native.Nat.{ℕ, _+_, _-_, _≤_, _<_}
+use Prim.Native.Nat.{ℕ, _+_, _-_, _≤_, _<_, zero-le}
 use native.Mathlib.Omega.{arith}
 use lib.ListN.{length}
-use Rattle.bitset.specs.Sets.{has}
+use borrow.Author.Tests.{eq-eqb}
+use Rattle.bitset.specs.Sets.{has, outside}
 use Rattle.bitset.proofs.BoolLaws.{not-both}
 use Rattle.bitset.proofs.HasLaws.{has-above}
-use Rattle.circuit.specs.Card.{card}
-use Rattle.circuit.specs.Legs.{tableOf}
-use Rattle.circuit.specs.State.{fresh}
-use Rattle.sheet.specs.declared.Opened.{Opened}
-use Rattle.circuit.proofs.StateLaws.{not-outside}
-use Rattle.sheet.specs.Layout.{Entry, Page, entriesBytes, bytesOf, Each, EntryFits, WellFormed, given}
-use Rattle.sheet.specs.Open.{opened, refused, openCall}
-use Rattle.sheet.proofs.ByteLaws.{entries-size, page-bytes}
-use Rattle.sheet.proofs.ReadLaws.{read-entries, opens}
-use Rattle.sheet.proofs.TakenLaws.{Bytes, taken}
+use Rattle.circuit.specs.Card.{number, card}
+use Rattle.circuit.specs.State.{Good}
+use Rattle.circuit.proofs.StateLaws.{inside, not-outside, stray-tableOf}
+use Rattle.sheet.specs.Layout.{Entry, Page, entriesBytes, bytesOf, Each, Bytes, EntryFits, WellFormed, allows, fixes, entryAt, given}
+use Rattle.sheet.specs.Open.{Got, got, fault, readPage, refused, openedPage, opened, openCall, TakenSheet}
+use Rattle.sheet.proofs.ByteLaws.{entries-size, entries-bytes}
+use Rattle.sheet.proofs.ReadLaws.{read-entries, read-page}
+use Rattle.sheet.proofs.TakenLaws.{Sure, IsPage, page-sure}
 use Rattle.sheet.proofs.ReaderLaws.{record-unknown}
 use Rattle.sheet.proofs.RecordsLaws.{read-fault}
 use Rattle.sheet.proofs.OpenLaws.{open-rest}
 
--- what opening hands back for the page
-abbrev pub takes : Page → ℕ → Opened
-takes p limit = record { answer = card 0; at = 0; work = fresh (p .stations) (tableOf (p .stations) (given p)) limit }
-
 -- The bytes of a well-formed page are taken under a good limit, and the table is exactly that of the leg rule.
-pub sheet-taken : (p : Page) (limit : ℕ) → WellFormed p → 1 ≤ limit → limit ≤ 64 → openCall (bytesOf p) limit ≡ takes p limit
-sheet-taken = opens
+pub sheet-taken : (p : Page) (limit : ℕ) → WellFormed p → 1 ≤ limit → limit ≤ 64 → openCall (bytesOf p) limit ≡ openedPage p limit
+unfolding openCall opened
+sheet-taken p limit f lo hi = rw (not-outside 1 64 limit lo hi, read-page p f)
 
 -- Those bytes are bytes.
 pub sheet-bytes : (p : Page) → WellFormed p → Bytes (bytesOf p)
-sheet-bytes = page-bytes
+unfolding bytesOf
+sheet-bytes p f = (omega (arith, f .most), entries-bytes (p .stations) (p .entries) (f .most) (f .fits))
 
 -- Whatever is taken is the bytes of a well-formed page under a good limit, and gives that page.
-pub taken-sheet : (s : List ℕ) (limit : ℕ) → Bytes s → openCall s limit .answer ≡ card 0
-    → (p : Page) × WellFormed p × (s ≡ bytesOf p) × (1 ≤ limit) × (limit ≤ 64) × (openCall s limit ≡ takes p limit)
-taken-sheet s limit b e =
-    let t = taken s limit e in
-    (t .page, t .well, t .is b, t .limit-least, t .limit-most, t .opened)
+pub taken-sheet : (s : List ℕ) (limit : ℕ) → openCall s limit .answer ≡ card 0 → TakenSheet s limit
+unfolding openCall opened
+taken-sheet s limit = go (outside 1 64 limit) refl (readPage s) refl (page-sure s)
+  where
+    go : (b : Bool) → outside 1 64 limit ≡ b → (g : Got Page) → readPage s ≡ g → Sure (IsPage s) g
+        → cond b (refused (card 6) 0) (opened (length s) limit g) .answer ≡ card 0 → TakenSheet s limit
+    go true e g q h z = let y : number (card 6) ≡ 0 = ap number z in absurd (let w : ⊥ = omega arith in w)
+    go false e (fault c r) q h z = let y : number c ≡ 0 = ap number z in absurd (let w : ⊥ = omega arith in w)
+    go false e (got p r) q h z =
+        let good = inside 1 64 limit e in
+        record { page = p; well = h .0; bytes = h .1; limit-least = good .0; limit-most = good .1; opened = rw (e, q) }
+
+no-self : (p : Page) (i : ℕ) → given p i i ≡ false
+unfolding given
+no-self p i =
+    ap (λ (b : Bool). not b && allows (entryAt p i .next) i && allows (entryAt p i .prev) i && fixes (entryAt p i .fixed) i) (eq-eqb i i refl)
+
+-- A taken opening hands back a good work state.
+pub opened-good : (s : List ℕ) (limit : ℕ) → openCall s limit .answer ≡ card 0 → Good (openCall s limit .work)
+opened-good s limit e =
+    let t = taken-sheet s limit e in
+    let p = t .page in
+    rw (t .opened)
+    (record {
+      two = t .well .two;
+      most = t .well .most;
+      table = stray-tableOf (p .stations) (given p) (t .well .most) (λ i l. no-self p i);
+      limit-least = t .limit-least;
+      limit-most = t .limit-most;
+      place = zero-le;
+    })
 
 -- A map byte with one of bits 3 to 7 set, met after well-formed records, is refused with 3 at that byte, whatever follows it.
 pub unknown-bit-refused : (n : ℕ) (es : List Entry) (m : ℕ) (rest : List ℕ) (limit : ℕ)

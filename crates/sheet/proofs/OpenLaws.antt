@@ -8,8 +8,7 @@ use native.Mathlib.Omega.{arith}
 use lib.ListN.{length, getD, drop}
 use Rattle.bitset.specs.Sets.{outside}
 use Rattle.circuit.specs.declared.card.Answer.the-variants.{CutSheet, BadCount, BadLimit}
-use Rattle.sheet.specs.Open.{readPage, refused, opened, openCall}
-use Rattle.sheet.specs.inner.Reader.{readRest}
+use Rattle.sheet.specs.Open.{readRest, readPage, refused, opened, openCall}
 
 module _ (s : List ℕ) (limit : ℕ) where
   pub open-limit : outside 1 64 limit ≡ true → openCall s limit ≡ refused BadLimit 0

@@ -20,14 +20,13 @@ use Rattle.circuit.specs.declared.card.Answer.{Answer}
 use Rattle.circuit.specs.declared.card.Answer.the-variants.{CutSheet, UnknownBit, StrayStation}
 use Rattle.circuit.proofs.StateLaws.{inside}
 use Rattle.sheet.specs.Layout.{allows, fixes}
-use Rattle.sheet.specs.Open.{Got, fault, little, readSet, readFixed, readEntry}
+use Rattle.sheet.specs.Open.{Got, fault, little, readSet, readFixed, readFields, readEntry}
 use Rattle.sheet.specs.inner.Reader.{GotAt, FaultAt, IsField, IsRecord}
-use Rattle.sheet.specs.declared.Field.{Field}
-use Rattle.sheet.specs.declared.Field.the-variants.{Allows}
-use Rattle.sheet.specs.declared.Read.{Read}
-use Rattle.sheet.specs.declared.Read.the-variants.{Whole}
-use Rattle.sheet.specs.declared.Stations.{Stations}
-use Rattle.sheet.proofs.ReadLaws.{fields}
+use Rattle.sheet.specs.declared.reader.Field.{Field}
+use Rattle.sheet.specs.declared.reader.Field.the-variants.{Allows}
+use Rattle.sheet.specs.declared.reader.Read.{Read}
+use Rattle.sheet.specs.declared.reader.Read.the-variants.{Whole}
+use Rattle.sheet.specs.declared.reader.Stations.{Stations}
 
 -- ---- parts
 
@@ -48,7 +47,7 @@ word-turn s k v p le l e =
     let more : 8 - (k - 1) ≡ suc (8 - k) = omega arith in
     let next : suc (k - 1) ≡ k = omega arith in
     let there : k - 1 < length s = omega arith in
-    rw (more, drop-cons s (k - 1) 0, next) (omega arith)
+    rw (more, drop-cons s (k - 1) 0 there, next) (omega arith)
 
 pub word-fits : (k v b : ℕ) → 0 < k → k ≤ 8 → b < 256 → v < 2 ^ (64 - 8 * k) → 256 * v + b < 2 ^ (64 - 8 * (k - 1))
 word-fits k v b p le h f =
@@ -74,7 +73,7 @@ module _ (n at : ℕ) (s : List ℕ) (le : at ≤ length s) where
 
   pub set-stray : 8 ≤ length s - at → 2 ^ n ≤ little 8 (drop at s) → FaultAt (readSet n true (drop at s)) s StrayStation at
   unfolding readSet
-  set-stray l h = record { is = rw (length-drop, le-ltb (length s - at) 8 l, le-ltb (little 8 (drop at s)) (2 ^ n) h); within = le }
+  set-stray l h = record { is = rw (length-drop, le-ltb (length s - at) 8 l, le-leb (2 ^ n) (little 8 (drop at s)) h); within = le }
 
   pub set-whole : n ≤ 64 → 8 ≤ length s - at → little 8 (drop at s) < 2 ^ n
       → IsField (readSet n true (drop at s)) allows s (Allows (record { set = little 8 (drop at s); end = at + 8 }))
@@ -83,7 +82,7 @@ module _ (n at : ℕ) (s : List ℕ) (le : at ≤ length s) where
       let v = little 8 (drop at s) in (
         record {
           value = some v;
-          is = rw (length-drop, le-ltb (length s - at) 8 l, lt-ltb v (2 ^ n) h, drop-drop 8 at s);
+          is = rw (length-drop, le-ltb (length s - at) 8 l, lt-leb (2 ^ n) v h, drop-drop 8 at s);
           within = omega arith;
         },
         sym (setOf-has 64 v (lt-of-lt-of-le h (pow-mono most))),
@@ -144,7 +143,7 @@ record-unknown n (m ∷ s) l h = record { is = rw (le-leb 8 m h); within = zero-
 
 -- the map is known, and the fields follow
 record-fields : (n : ℕ) (s : List ℕ) → 1 ≤ length s → getD s 0 0 < 8
-    → readEntry n s ≡ fields n (has (getD s 0 0) 0) (has (getD s 0 0) 1) (has (getD s 0 0) 2) (drop 1 s)
+    → readEntry n s ≡ readFields n (getD s 0 0) (drop 1 s)
 unfolding readEntry
 record-fields n [] l h = absurd (not-suc-le-zero l)
 record-fields n (m ∷ s) l h = rw (lt-leb 8 m h)

@@ -18,8 +18,8 @@ use Rattle.circuit.specs.Legs.{tableOf}
 use Rattle.circuit.specs.inner.Tables.{Square}
 use Rattle.circuit.specs.State.{fresh}
 use Rattle.sheet.specs.Layout.{Entry, Page, given}
-use Rattle.sheet.specs.Open.{Got, got, fault, _then_, readEntry, readEntries, readEnd, refused, opened}
-use Rattle.sheet.specs.inner.Reader.{GotAt, FaultAt, nextOf, prevOf, legal, readRest}
+use Rattle.sheet.specs.Open.{Got, got, fault, _then_, readEntry, readEntries, readEnd, readRest, refused, opened}
+use Rattle.sheet.specs.inner.Reader.{GotAt, FaultAt, nextOf, prevOf, legal}
 use Rattle.sheet.proofs.TableLaws.{barredOf, free, mapped-at, legal-given}
 
 -- ---- i records, then k records
@@ -54,7 +54,7 @@ module _ (k n : ℕ) where
 
 module _ (n i : ℕ) (s r : List ℕ) (es : List Entry) (before : readEntries i n s ≡ got es r) where
   -- one record more
-  pub read-more : (e : Entry) (q : List ℕ) → readEntry n r ≡ got e q → readEntries (i + 1) n s ≡ got (es ++ (e ∷ [])) q
+  read-more : (e : Entry) (q : List ℕ) → readEntry n r ≡ got e q → readEntries (i + 1) n s ≡ got (es ++ (e ∷ [])) q
   unfolding readEntries
   read-more e q h = read-add 1 n i s ∙ rw (before, h)
 

@@ -1,8 +1,10 @@
 //! Reads a sheet from standard input and prints what the filter makes of it.
+//! With the argument `fast` the calls over words of bits are made instead of the
+//! plain ones.
 
 use std::io::{self, Read, Write};
 
-use reference::program;
+use reference::{program, Calls, Fast, Plain};
 
 fn main() -> io::Result<()> {
     let mut sheet = Vec::new();
@@ -10,5 +12,9 @@ fn main() -> io::Result<()> {
         .lock()
         .take(program::BYTES_READ)
         .read_to_end(&mut sheet)?;
-    io::stdout().write_all(program::output(&sheet).as_bytes())
+    let calls: &dyn Calls = match std::env::args().nth(1).as_deref() {
+        Some("fast") => &Fast,
+        _ => &Plain,
+    };
+    io::stdout().write_all(program::output(calls, &sheet).as_bytes())
 }

@@ -113,20 +113,27 @@ fn standing_legs(rng: &mut Xorshift, state: &WorkState) -> Vec<u8> {
 }
 
 fn report(rng: &mut Xorshift, state: &WorkState) -> Call {
-    // A bad state has no text, and any length will do.
-    let text = match fast::report(state, &mut [0; LONGEST_TEXT]).length as usize {
-        0 => 60,
-        length => length,
-    };
     let length = match rng.below(6) {
-        0 => text,
-        1 => text - 1,
-        2 => text + 1,
-        3 => 0,
-        4 => text + rng.pick(&[2, 64, LONGEST_TEXT]),
-        _ => rng.below(2 * text),
+        0 => rng.below(2 * text_length(state)),
+        _ => rng.pick(&report_lengths(state)),
     };
     Call::Report { length }
+}
+
+/// Buffers of no byte and of one, of the text's length, up to two bytes shorter
+/// and longer, and with much room.
+pub fn report_lengths(state: &WorkState) -> [usize; 8] {
+    let text = text_length(state);
+    let room = text + LONGEST_TEXT;
+    [0, 1, text - 2, text - 1, text, text + 1, text + 2, room]
+}
+
+/// A bad state has no text, and any length will do.
+fn text_length(state: &WorkState) -> usize {
+    match fast::report(state, &mut [0; LONGEST_TEXT]).length as usize {
+        0 => 60,
+        length => length,
+    }
 }
 
 /// Breaks one clause of a good state.

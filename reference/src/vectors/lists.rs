@@ -1,7 +1,7 @@
 //! List checks: every list over small tables, and lists of wrong shape.
 
 use super::open_table;
-use crate::gen::ring;
+use crate::gen::{all_lists, ring};
 use crate::paper;
 use crate::script::Script;
 use crate::table::LegTable;
@@ -53,14 +53,8 @@ fn named_lists(script: &mut Script) {
 
 /// All n^n lists of n stations.
 fn every_list(script: &mut Script, n: usize) {
-    let mut list = vec![1; n];
-    loop {
+    for list in all_lists(n, 1..=n as u8) {
         script.list(&list);
-        let Some(at) = list.iter().position(|&number| usize::from(number) < n) else {
-            return;
-        };
-        list[at] += 1;
-        list[..at].fill(1);
     }
 }
 

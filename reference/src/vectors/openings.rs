@@ -204,15 +204,7 @@ fn limits(script: &mut Script) {
 }
 
 fn longest(script: &mut Script) {
-    let mut sheet = Sheet::plain(64);
-    for (at, record) in sheet.records.iter_mut().enumerate() {
-        *record = Record {
-            next: Some(u64::MAX),
-            previous: Some(u64::MAX),
-            fixed: Some((at as u8 + 1) % 64 + 1),
-        };
-    }
-    let bytes = sheet.bytes();
+    let bytes = Sheet::longest().bytes();
     script.open(LIMIT, &bytes);
     script.open(LIMIT, &[&bytes[..], &[0]].concat());
     script.open(LIMIT, &bytes[..bytes.len() - 1]);

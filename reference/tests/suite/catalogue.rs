@@ -1,20 +1,17 @@
 //! The catalogue's example and solution counts.
 
-use reference::gen::{any_table, Xorshift};
+use reference::gen::{all_lists, any_table, Xorshift};
 use reference::list::is_round;
 use reference::paper::{catalogue, SOLUTION_COUNTS};
 use reference::rounds::rounds;
-use reference::{list_check, LegTable};
+use reference::{list_check, vectors, Fast, LegTable};
 
+use crate::scripts::answers;
 use crate::{opened, BOTH};
 
-/// Every list of n numbers from 1 to n.
-fn all_lists(n: usize) -> impl Iterator<Item = Vec<u8>> {
-    let count = n.pow(n as u32);
-    (0..count).map(move |code| {
-        let digits = (0..n as u32).map(|at| code / n.pow(at) % n);
-        digits.map(|digit| digit as u8 + 1).collect()
-    })
+/// Every list of n stations.
+fn lists_of(n: usize) -> impl Iterator<Item = Vec<u8>> {
+    all_lists(n, 1..=n as u8)
 }
 
 fn as_bytes(successors: &[usize]) -> Vec<u8> {
@@ -36,9 +33,28 @@ fn solution_counts_by_list_checks() {
     for (n, count) in &SOLUTION_COUNTS[..5] {
         let state = opened(&LegTable::full(*n));
         for calls in BOTH {
-            let yes = all_lists(*n).filter(|list| calls.list_check(&state, list).yes);
+            let yes = lists_of(*n).filter(|list| calls.list_check(&state, list).yes);
             assert_eq!(yes.count(), *count);
         }
+    }
+}
+
+/// The vectors check every list of 2 to 5 stations on the full table.
+#[test]
+fn solution_counts_in_the_vectors() {
+    let text = answers(&Fast, vectors::script().bytes());
+    let text = String::from_utf8(text).expect("text");
+    let openings: Vec<&str> = text.split("\nopen ").collect();
+    for (n, count) in &SOLUTION_COUNTS[..4] {
+        let full = format!("0 at 0\nstate {}\n", opened(&LegTable::full(*n)));
+        let yes = openings.iter().filter_map(|opening| {
+            let checks: Vec<&str> = opening.strip_prefix(&full)?.lines().collect();
+            let all = checks.len() == n.pow(*n as u32);
+            let all = all && checks.iter().all(|line| line.starts_with("list 0 "));
+            let yes = checks.iter().filter(|line| line.ends_with(" yes"));
+            all.then_some(yes.count())
+        });
+        assert_eq!(yes.collect::<Vec<_>>(), [*count]);
     }
 }
 
@@ -59,7 +75,7 @@ fn list_checks_accept_each_round_of_seven_and_eight() {
 fn all_solutions_of_the_example() {
     let state = opened(&catalogue());
     for calls in BOTH {
-        let yes: Vec<_> = all_lists(4)
+        let yes: Vec<_> = lists_of(4)
             .filter(|list| calls.list_check(&state, list).yes)
             .collect();
         assert_eq!(yes, [[3, 1, 4, 2], [4, 1, 2, 3]]);
@@ -73,7 +89,7 @@ fn list_checks_agree_with_enumerated_rounds() {
         let n = rng.between(2, 5);
         let table = any_table(&mut rng, n);
         let found: Vec<_> = rounds(&table).iter().map(|round| as_bytes(round)).collect();
-        for list in all_lists(n) {
+        for list in lists_of(n) {
             let yes = list_check(&opened(&table), &list).yes;
             assert_eq!(yes, found.contains(&list));
         }

@@ -6,9 +6,11 @@ mod choices;
 mod compare;
 mod fast;
 mod openings;
+mod programs;
 mod scripts;
 mod soundness;
 mod states;
+mod stored;
 mod wall;
 mod yard;
 

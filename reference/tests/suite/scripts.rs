@@ -3,7 +3,7 @@
 use reference::script::{play, Script};
 use reference::{vectors, Calls, Fast, Plain};
 
-fn answers(calls: &impl Calls, script: &[u8]) -> Vec<u8> {
+pub fn answers(calls: &impl Calls, script: &[u8]) -> Vec<u8> {
     let mut out = Vec::new();
     play(calls, script, &mut out).expect("writing to memory");
     out
@@ -76,11 +76,9 @@ fn unknown_and_cut_commands_stop() {
 }
 
 #[test]
-fn vectors_are_small_and_answered_alike() {
+fn vectors_are_answered_alike() {
     let script = vectors::script();
-    assert!(script.bytes().len() < 900_000);
     let plain = answers(&Plain, script.bytes());
-    assert!(plain.len() < 3_000_000);
     assert!(plain == answers(&Fast, script.bytes()));
     assert!(!plain.ends_with(b"stop\n"));
 }

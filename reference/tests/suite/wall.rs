@@ -8,18 +8,24 @@ use crate::{opened, removed_legs, BOTH};
 
 #[test]
 fn program_on_the_nine_legs() {
-    assert_eq!(program::output(&NINE_LEGS), NINE_LEGS_OUTPUT);
+    for calls in BOTH {
+        assert_eq!(program::output(calls, &NINE_LEGS), NINE_LEGS_OUTPUT);
+    }
 }
 
 #[test]
 fn program_on_a_table_without_round() {
-    let text = program::output(&[2, 4, 1, 0]);
-    assert_eq!(text, "stations 2 legs 1\nsteps 1 removed 0 end none\n");
+    for calls in BOTH {
+        let text = program::output(calls, &[2, 4, 1, 0]);
+        assert_eq!(text, "stations 2 legs 1\nsteps 1 removed 0 end none\n");
+    }
 }
 
 #[test]
 fn program_on_a_refused_sheet() {
-    assert_eq!(program::output(&[0x03, 0x0C]), "refused 3 at 1\n");
+    for calls in BOTH {
+        assert_eq!(program::output(calls, &[0x03, 0x0C]), "refused 3 at 1\n");
+    }
 }
 
 #[test]

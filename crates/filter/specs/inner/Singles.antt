@@ -7,7 +7,7 @@ use lib.Count.{ones}
 use lib.Dec.{eqb, ltb}
 use lib.ListN.{getD}
 use Rattle.bitset.specs.Sets.{has, any}
-use Rattle.filter.specs.declared.Singles.{Singles}
+use Rattle.filter.specs.declared.sweeping.Singles.{Singles}
 
 -- the word has one member only
 abbrev pub single : ℕ → Bool

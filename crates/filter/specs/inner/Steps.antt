@@ -4,7 +4,7 @@ use mathlib.Core.Bool.{Bool, false, cond}
 use mathlib.Core.List.{List}
 use Prim.Native.Nat.{ℕ, _^_, _<_}
 use lib.Dec.{leb}
-use lib.ListN.{length, getD}
+use lib.ListN.{getD}
 use Rattle.bitset.specs.Sets.{size}
 use Rattle.circuit.specs.declared.state.Work.{Work}
 use Rattle.circuit.specs.declared.verdict.Verdict.{Verdict}
@@ -13,11 +13,11 @@ use Rattle.circuit.specs.inner.Tables.{Columned}
 use Rattle.circuit.specs.State.{rowsOf, moved, stray}
 use Rattle.circuit.specs.Verdict.{leaves}
 use Rattle.separator.specs.Level.{level}
-use Rattle.filter.specs.declared.Cursor.{Cursor}
+use Rattle.filter.specs.declared.cycle.Cursor.{Cursor}
 use Rattle.filter.specs.Calls.{gone, after}
 
 -- the verdict leaves no stray leg and no leg that was missing
-pub record Within (w : Work) (v : Verdict) : Type 0 where
+pub record Narrows (w : Work) (v : Verdict) : Type 0 where
   pub clean : stray (w .n) (v .left) ≡ false
   pub sub : Subtable (v .left) (rowsOf w)
 
@@ -29,13 +29,7 @@ limited n limit s t = cond (leb (size n s) limit) (level n t s) (leaves t)
 abbrev pub LevelsBelow : ℕ → ℕ → List ℕ → Type 0
 LevelsBelow n count level = (k : ℕ) → k < count → getD level k 0 < 2 ^ n
 
--- the verdict v, and the rows that it leaves
-pub record RowsTaken (n : ℕ) (v : Verdict) (none : Bool) (rows : List ℕ) : Type 0 where
-  pub verdict : v ≡ record { none = none; left = rows }
-  pub clean : stray n rows ≡ false
-  pub len : length rows ≡ 64
-
--- the same, with their columns
+-- the verdict v, and the rows that it leaves with their columns
 pub record TableTaken (n : ℕ) (v : Verdict) (none : Bool) (rows cols : List ℕ) : Type 0 where
   pub verdict : v ≡ record { none = none; left = rows }
   pub table : Columned n rows cols

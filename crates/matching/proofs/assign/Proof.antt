@@ -48,12 +48,14 @@ returns c =
     let l = c .before .before .before .before .before .before in
     let a = l .before .args in
     record {
-      some = λ e. absurd (false≢true e);
-      none = λ _ q. c .before .before .extend .ensures .no (not-true _ (c .if1 .taken))
-          (record { to = q .to; good = assigns-less (now (a .fits)) (l .loop .n + 1) (a .p) (q .to) (omega arith) (q .good) });
-      inside = λ e. absurd (false≢true e);
+      some =
+          record {
+            holds = λ e. absurd (false≢true e);
+            found = λ q. absurd (c .before .before .extend .ensures .no (not-true _ (c .if1 .taken))
+                (record { to = q .to; good = assigns-less (now (a .fits)) (l .loop .n + 1) (a .p) (q .to) (omega arith) (q .good) }));
+          };
       left = λ e. absurd (false≢true e);
-      taken = λ e. absurd (false≢true e);
+      empty = λ _. refl;
     }
 
 add-n : tie.Need-add-n Inv-loop μ-loop

@@ -7,7 +7,8 @@ use lib.ListN.{length, set, length-set}
 use lib.Bits.{bitAnd, and-le-l}
 use borrow.Author.Needs.{needs}
 use borrow.Author.Tests.{not-true, not-false}
-use Rattle.matching.specs.Matching.{nth, Out}
+use Rattle.bitset.specs.Upto.{row}
+use Rattle.matching.specs.Matching.{Out}
 use Rattle.matching.proofs.WordLaws.{Without, member-below, without-one, fewer}
 use Rattle.matching.proofs.PutLaws.{Put, put-set}
 use Rattle.matching.proofs.PathLaws.{Path, path-start, path-step, path-next, path-end}
@@ -16,7 +17,7 @@ use Rattle.matching.proofs.augment.Tie as tie
 
 abbrev Inv-loop : tie.InvT-loop
 Inv-loop fits owner₀ via n stations free reach first c₀ s₀ rest₀ owner c s rest =
-    (rest < 2 ^ 64) × (length owner ≡ 64) × Path fits n stations free reach (nth via) (nth owner) c s rest
+    (rest < 2 ^ 64) × (length owner ≡ 64) × Path fits n stations free reach (row via) (row owner) c s rest
 
 abbrev μ-loop : tie.MeasureT-loop
 μ-loop fits owner₀ via n stations free reach first c₀ s₀ rest₀ owner c s rest = rest
@@ -49,7 +50,7 @@ element-copy-out-s : tie.Need-element-copy-out-s Inv-loop μ-loop
 element-copy-out-s c = s-below (c .before .before .before .before)
 
 -- the component at s makes room for c
-move : (d : tie.At-loop Inv-loop μ-loop) → Put (nth (d .loop .owner)) (d .loop .s) (d .loop .c) (nth (set (d .loop .owner) (d .loop .s) (d .loop .c)))
+move : (d : tie.At-loop Inv-loop μ-loop) → Put (row (d .loop .owner)) (d .loop .s) (d .loop .c) (row (set (d .loop .owner) (d .loop .s) (d .loop .c)))
 move d = put-set (d .loop .owner) (d .loop .s) (d .loop .c) (omega (arith, s-below d, d .loop .inv .1))
 
 -- s is not free

@@ -5,7 +5,8 @@ use Prim.Native.Nat.{_+_}
 use native.Mathlib.Omega.{arith}
 use lib.ListN.{set, length-set}
 use borrow.Author.Needs.{needs}
-use Rattle.matching.specs.Matching.{nth, Inside}
+use Rattle.bitset.specs.Upto.{row}
+use Rattle.matching.specs.Matching.{Inside}
 use Rattle.matching.proofs.WordLaws.{in-and, and-none, without-one}
 use Rattle.matching.proofs.PutLaws.{put-set}
 use Rattle.matching.proofs.PathLaws.{direct}
@@ -41,7 +42,7 @@ returns c =
     let m = b .pre .3 in
     let s = c .before .lowest .result in
     let l = c .before .lowest .ensures .1 in
-    let i = in-and (nth (now (a .fits)) (a .n)) (a .free) s (l .member) in
+    let i = in-and (row (now (a .fits)) (a .n)) (a .free) s (l .member) in
     record {
       size = b .pre .1;
       yes = λ _. direct (now (a .fits)) (now (a .owner)) (set (now (a .owner)) s (a .n)) (a .n) (a .stations) (a .free) s _ m (i .0) (i .1)
@@ -72,7 +73,7 @@ returns-2 c =
       size = g .reachable .ensures .size;
       yes = λ e. absurd (false≢true e);
       no = λ _. stuck (now (a .fits)) (now (a .owner)) _ (a .n) (a .stations) (a .free) (g .reachable .result) less (b .pre .3) (g .reachable .ensures) (b .pre .2)
-          (λ t. and-none (nth (now (a .fits)) (a .n)) (g .reachable .result) t (c .if2 .taken));
+          (λ t. and-none (row (now (a .fits)) (a .n)) (g .reachable .result) t (c .if2 .taken));
     }
 
 lowest-requires-2 : tie.Need-lowest-requires-2
@@ -86,7 +87,7 @@ augment-requires c κs =
     let g = c .before .before .before .before .before in
     let b = g .before .before .before .before .before in
     let a = b .args in
-    let i = in-and (nth (now (a .fits)) (a .n)) (g .reachable .result) (c .lowest2 .result) (c .lowest2 .ensures .1 .member) in (
+    let i = in-and (row (now (a .fits)) (a .n)) (g .reachable .result) (c .lowest2 .result) (c .lowest2 .ensures .1 .member) in (
       b .pre .0,
       record {
         matched = b .pre .3;

@@ -10,7 +10,7 @@ use borrow.Author.Needs.{needs}
 use Rattle.bitset.specs.Sets.{has}
 use Rattle.bitset.proofs.BoolLaws.{not-both, is-false}
 use Rattle.bitset.proofs.HasLaws.{has-zero}
-use Rattle.matching.specs.Matching.{nth}
+use Rattle.bitset.specs.Upto.{row}
 use Rattle.matching.proofs.WordLaws.{With, in-and, and-none, in-diff, diff-in, with-one, without-least}
 use Rattle.matching.proofs.PutLaws.{put-set}
 use Rattle.matching.proofs.SearchLaws.{Search, search-start, search-found, search-blocked, grown-less}
@@ -19,7 +19,7 @@ use Rattle.matching.proofs.reachable.Tie as tie
 
 abbrev Inv-loop : tie.InvT-loop
 Inv-loop fits owner stations free via₀ reach₀ rest₀ via reach rest =
-    (reach < 2 ^ 64) × (rest < 2 ^ 64) × (length via ≡ 64) × Search fits stations free (nth owner) (nth via) reach rest
+    (reach < 2 ^ 64) × (rest < 2 ^ 64) × (length via ≡ 64) × Search fits stations free (row owner) (row via) reach rest
 
 abbrev μ-loop : tie.MeasureT-loop
 μ-loop fits owner stations free via₀ reach₀ rest₀ via reach rest = (2 ^ 64 - reach) * 2 ^ 64 + rest
@@ -44,7 +44,7 @@ element-copy-out-hit : tie.Need-element-copy-out-hit Inv-loop μ-loop
 element-copy-out-hit c = search needs
 
 -- the component at s, which is not free, is below 64
-c-below : (c : tie.After-lowest Inv-loop μ-loop) → nth (now (c .before .before .before .args .owner)) (c .lowest .result) < 64
+c-below : (c : tie.After-lowest Inv-loop μ-loop) → row (now (c .before .before .before .args .owner)) (c .lowest .result) < 64
 c-below c =
     let q = c .before .before .loop .inv .3 in
     let s = c .lowest .result in
@@ -103,11 +103,11 @@ loop-again c =
     let t = c .before .lowest2 .result in
     let w = bitOr (v .reach) (c .singleton .result) in
     let hs = l .before .fits .stations .fits in
-    let b = in-and (nth (now (a .fits)) (nth (now (a .owner)) s)) (v .reach) t (c .before .lowest2 .ensures .1 .member) in (
+    let b = in-and (row (now (a .fits)) (row (now (a .owner)) s)) (v .reach) t (c .before .lowest2 .ensures .1 .member) in (
       more-fits c,
       omega (arith, and-le-l (a .stations) ((2 ^ 64 - 1) - w), hs),
       simp length-set (v .inv .2),
-      search-found (now (a .fits)) (a .stations) (a .free) (nth (now (a .owner))) (nth (v .via)) (v .reach) (v .rest) (v .inv .3) s (d .lowest .ensures .1 .member)
+      search-found (now (a .fits)) (a .stations) (a .free) (row (now (a .owner))) (row (v .via)) (v .reach) (v .rest) (v .inv .3) s (d .lowest .ensures .1 .member)
           t w _ _ (b .0) (b .1) (joined c) (λ u. (in-diff (a .stations) w u hs (more-fits c), diff-in (a .stations) w u hs (more-fits c)))
           (put-set (v .via) s t (omega (arith, d .lowest .ensures .1 .below, v .inv .2))),
     )
@@ -130,9 +130,9 @@ loop-again-2 c =
       v .inv .0,
       omega (arith, and-le-l (v .rest) (v .rest - 1), v .inv .1),
       v .inv .2,
-      search-blocked (now (a .fits)) (a .stations) (a .free) (nth (now (a .owner))) (nth (v .via)) (v .reach) (v .rest) (v .inv .3) s (d .lowest .ensures .1 .member)
+      search-blocked (now (a .fits)) (a .stations) (a .free) (row (now (a .owner))) (row (v .via)) (v .reach) (v .rest) (v .inv .3) s (d .lowest .ensures .1 .member)
           _ (without-least (v .rest) s (omega (arith, d .before .loop-test .taken)) (v .inv .1) (d .lowest .ensures .0))
-          (λ t. and-none (nth (now (a .fits)) (nth (now (a .owner)) s)) (v .reach) t (c .if1 .left)),
+          (λ t. and-none (row (now (a .fits)) (row (now (a .owner)) s)) (v .reach) t (c .if1 .left)),
     )
 
 returns : tie.Need-returns Inv-loop μ-loop

@@ -1,8 +1,7 @@
 -- `prune::read_sheet` is safe and ends, and what it read lies within the buffer. The measure is the number of turns that are left. Assumes nothing.
 use borrow.Author.Needs.{needs}
-use mathlib.Core.Path.{_≡_, refl}
+use mathlib.Core.Path.{_≡_}
 use Prim.Native.Nat.{_≤_}
-use native.Mathlib.Omega.{arith}
 use lib.ListN.{length}
 use Rattle.prune.proofs.read_sheet.Statement.{statement}
 use Rattle.prune.proofs.read_sheet.Tie as tie

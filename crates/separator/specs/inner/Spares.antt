@@ -1,38 +1,27 @@
 -- What the functions of one level promise: the rule of `specs/Level` on words. The code does not know n, so it reads a table as one of 64 stations.
 use mathlib.Core.Path.{_≡_}
-use mathlib.Core.Logic.{_⊎_}
 use mathlib.Core.Bool.{Bool, true, false, not, cond, _&&_}
-use mathlib.Core.List.{List, [], _∷_}
-use Prim.Native.Nat.{ℕ, suc, _<_}
-use lib.Dec.{eqb}
-use lib.ListN.{getD, length}
+use mathlib.Core.List.{List}
+use Prim.Native.Nat.{ℕ, zero, suc, _<_}
+use lib.ListN.{length}
 use Rattle.bitset.specs.Sets.{has, any, setOf, meet}
+use Rattle.bitset.specs.Tests.{Decides}
+use Rattle.bitset.specs.Upto.{row}
 use Rattle.circuit.specs.Legs.{leg, col}
-use Rattle.matching.specs.Matching.{Exact}
+use Rattle.matching.specs.Matching.{Assignment, LeftOut}
 use Rattle.separator.specs.declared.level.Spares.{Spares}
-use Rattle.separator.specs.Level.{stands, marking, passable, struck}
+use Rattle.separator.specs.Level.{marking, passable, struck}
 
 -- ---- marks
-
--- i and j are two different stations of s
-unfoldable pub pair : ℕ → ℕ → ℕ → Bool
-pair s i j = has s i && has s j && not (eqb i j)
-
--- the mark m stands on the pair (i, j) of the level s with the components cs
-unfoldable pub markAt : List ℕ → ℕ → List ℕ → ℕ → ℕ → ℕ → Bool
-markAt t s cs i j m = pair s i j && stands 64 t cs i j m
-
--- the mark of the component w stands on the pair (i, j)
-abbrev pub through : List ℕ → ℕ → ℕ → ℕ → ℕ → Bool
-through t s w i j = markAt t s (w ∷ []) i j 1
-
--- the leg i→j stands on the pair (i, j)
-abbrev pub bare : List ℕ → ℕ → ℕ → ℕ → Bool
-bare t s i j = markAt t s [] i j 0
 
 -- the stations of s that have a leg from the component w
 unfoldable pub entered : List ℕ → ℕ → ℕ → ℕ
 entered t s w = setOf 64 (λ j. has s j && meet 64 (col 64 t j) w)
+
+-- the stations of s in which the mark m can end: all, where it is bare, and otherwise those that have a leg from its component
+unfoldable pub lastOf : List ℕ → ℕ → List ℕ → ℕ → ℕ
+lastOf t s cs zero = s
+lastOf t s cs (suc c) = entered t s (row cs c)
 
 -- `tails` has the first and `heads` the second stations of the pairs on which a mark stands
 pub record EndsOf (on : ℕ → ℕ → Bool) (tails heads : ℕ) : Type 0 where
@@ -45,13 +34,15 @@ pub record EndsOf (on : ℕ → ℕ → Bool) (tails heads : ℕ) : Type 0 where
 -- `fits` has for each of the p components the stations that can take it, and `some` has the stations with a mark.
 pub record Side (may : ℕ → ℕ → ℕ → Bool) (p : ℕ) (fits : List ℕ) (some : ℕ) : Type 0 where
   pub size : length fits ≡ 64
-  pub component : (c : ℕ) → c < p → getD fits c 0 ≡ setOf 64 (λ x. any 64 (λ y. may x y (suc c)))
+  pub component : (c : ℕ) → c < p → row fits c ≡ setOf 64 (λ x. any 64 (λ y. may x y (suc c)))
   pub any-mark : some ≡ setOf 64 (λ x. any (suc p) (λ m. any 64 (λ y. may x y m)))
 
--- every station of s has a mark and the components can be assigned, and `spare` has the stations that can be left out; or one of the two fails
+-- `complete` says whether every station of s has a mark and the components can be assigned; then `spare` has just the stations that some assignment
+-- leaves out, and otherwise none
 pub record Settled (fits : List ℕ) (p s some : ℕ) (complete : Bool) (spare : ℕ) : Type 0 where
-  pub yes : complete ≡ true → ((x : ℕ) → has s x ≡ true → has some x ≡ true) × Exact fits p s true spare
-  pub no : complete ≡ false → ((x : ℕ) × (has s x ≡ true) × (has some x ≡ false)) ⊎ Exact fits p s false spare
+  pub both : Decides complete (((x : ℕ) → has s x ≡ true → has some x ≡ true) × Assignment fits p)
+  pub left : complete ≡ true → (x : ℕ) → Decides (has spare x) ((has s x ≡ true) × LeftOut fits p x)
+  pub empty : complete ≡ false → spare ≡ 0
 
 -- ---- the cut
 
@@ -66,9 +57,10 @@ cutRow s out into i w = cond (has s i) (setOf 64 (λ j. has w j && not (cuts s o
 -- each of the 64 words is cut
 pub record Cut (s out into : ℕ) (before after : List ℕ) : Type 0 where
   pub size : length after ≡ 64
-  pub word : (k : ℕ) → k < 64 → getD after k 0 ≡ cutRow s out into k (getD before k 0)
+  pub word : (k : ℕ) → k < 64 → row after k ≡ cutRow s out into k (row before k)
 
--- what `spare_stations` says of the level s: whether it gives none, and otherwise that the rule strikes the legs that the cut takes out
+-- What `spare_stations` says of the level s: whether it gives none, and otherwise that the rule strikes the legs that the cut takes out. Left open are
+-- `out` and `into` where it gives none, and besides their stations without a leg inside s: nothing depends on these.
 pub record SparesOf (n : ℕ) (t : List ℕ) (s : ℕ) (r : Spares) : Type 0 where
   pub verdict : r .none ≡ not (passable n s (marking n t s))
   pub strikes : r .none ≡ false → (i j : ℕ) → i < n → j < n → leg t i j ≡ true

@@ -1,17 +1,17 @@
 -- `sheet::open_records` meets its contract. The invariant: the records that were read so far. Assumes nothing.
 use borrow.Author.Needs.{needs}
-use mathlib.Core.Path.{refl, sym, ap, ap₂, _∙_}
+use mathlib.Core.Path.{_≡_, refl, sym, ap, ap₂, _∙_}
 use mathlib.Core.List.{List}
-use Prim.Native.Nat.{ℕ, _-_, _≤_}
+use Prim.Native.Nat.{ℕ, _+_, _-_, _≤_}
 use native.Mathlib.Omega.{arith}
 use lib.Bits.{bitAnd}
-use lib.ListN.{drop, length-drop}
+use lib.ListN.{length, drop, length-drop}
 use Rattle.circuit.specs.declared.card.Answer.the-variants.{Taken}
 use Rattle.sheet.specs.declared.Opened.{Opened}
 use Rattle.circuit.specs.declared.state.Work.{Work}
 use Rattle.circuit.specs.State.{fresh}
-use Rattle.sheet.specs.declared.Read.{Read}
-use Rattle.sheet.specs.declared.Read.the-variants.{Whole, Fault}
+use Rattle.sheet.specs.declared.reader.Read.{Read}
+use Rattle.sheet.specs.declared.reader.Read.the-variants.{Whole, Fault}
 use Rattle.sheet.specs.Open.{readEntry}
 use Rattle.sheet.specs.inner.Reader.{IsRecord}
 use Rattle.sheet.proofs.ReaderLaws.{rest-of, record-told}
@@ -25,30 +25,59 @@ Inv-loop sheet n limit next₀ barred₀ at₀ i₀ next barred at i = (i ≤ n)
 abbrev μ-loop : tie.MeasureT-loop
 μ-loop sheet n limit next₀ barred₀ at₀ i₀ next barred at i = n - i
 
--- ---- in a turn: the sheet, the number of stations, and the rest of the sheet
+-- ---- places in the code, with the sheet and the number of stations
 
-abbrev sheet : tie.In-loop Inv-loop μ-loop → List ℕ
-sheet c = c .before .before .before .args .sheet .now
+abbrev start : tie.At-loop Inv-loop μ-loop → tie.Start Inv-loop μ-loop
+start c = c .before .before
 
-abbrev n : tie.In-loop Inv-loop μ-loop → ℕ
-n c = c .before .before .before .args .n
+abbrev sheet : tie.At-loop Inv-loop μ-loop → List ℕ
+sheet c = start c .args .sheet .now
 
-abbrev rest : tie.In-loop Inv-loop μ-loop → List ℕ
-rest c = drop (c .before .loop .at) (sheet c)
+abbrev n : tie.At-loop Inv-loop μ-loop → ℕ
+n c = start c .args .n
 
--- what the reader answers there
-abbrev Answers : tie.In-loop Inv-loop μ-loop → Read → Type 0
-Answers c r = IsRecord (readEntry (n c) (rest c)) (rest c) r
+-- the turn in which a record was read
+abbrev turn : tie.After-read-record Inv-loop μ-loop → tie.At-loop Inv-loop μ-loop
+turn c = c .before .before .before
 
-whole : (c : tie.After-known-told Inv-loop μ-loop) → Answers (c .before .before .before .before .before) (Whole (c .before .read .given .0 .0))
-whole c =
-    let t = c .before .before .before .before .before in
-    record-told (n t) (rest-of (t .before .loop .at) (sheet t)) (c .before .read .given .1) (c .before .before .before .read-record .ensures)
+abbrev read-whole : tie.After-known-told Inv-loop μ-loop → tie.After-read-record Inv-loop μ-loop
+read-whole c = c .before .before .before
 
-broken : (c : tie.After-known-told2 Inv-loop μ-loop) → Answers (c .before .before .before .before .before) (Fault (c .before .read2 .given .0 .0) (c .before .read2 .given .0 .1 .0))
-broken c =
-    let t = c .before .before .before .before .before in
-    record-told (n t) (rest-of (t .before .loop .at) (sheet t)) (c .before .read2 .given .1) (c .before .before .before .read-record .ensures)
+abbrev read-fault : tie.After-known-told2 Inv-loop μ-loop → tie.After-read-record Inv-loop μ-loop
+read-fault c = c .before .before .before
+
+-- its words are stored
+abbrev stored : tie.After-struct-known2 Inv-loop μ-loop → tie.After-known-told Inv-loop μ-loop
+stored c = c .before .before .before
+
+-- all records are read, and no byte is left over
+abbrev ended : tie.After-barred Inv-loop μ-loop → tie.After-loop Inv-loop μ-loop
+ended c = c .before .before .before
+
+abbrev made-table : tie.After-fresh Inv-loop μ-loop → tie.After-table-of Inv-loop μ-loop
+made-table c = c .before
+
+-- ---- what is known there
+
+-- what the reader answers on the rest of the sheet
+abbrev Answers : tie.At-loop Inv-loop μ-loop → Read → Type 0
+Answers c r = let rest = drop (c .loop .at) (sheet c) in IsRecord (readEntry (n c) rest) rest r
+
+told : (c : tie.After-read-record Inv-loop μ-loop) (r : Read) → c .read-record .result ≡ r → Answers (turn c) r
+told c r e = record-told (n (turn c)) (rest-of (turn c .loop .at) (sheet (turn c))) e (c .read-record .ensures)
+
+whole : (c : tie.After-known-told Inv-loop μ-loop) → Answers (turn (read-whole c)) (Whole (c .before .read .given .0 .0))
+whole c = told (read-whole c) _ (c .before .read .given .1)
+
+broken : (c : tie.After-known-told2 Inv-loop μ-loop) → Answers (turn (read-fault c)) (Fault (c .before .read2 .given .0 .0) (c .before .read2 .given .0 .1 .0))
+broken c = told (read-fault c) _ (c .before .read2 .given .1)
+
+-- the offset k in the rest of the sheet is a place in the sheet
+place-fits : (v : tie.At-loop Inv-loop μ-loop) (k : ℕ) → k ≤ length (drop (v .loop .at) (sheet v)) → v .loop .at + k ≤ length (sheet v)
+place-fits v k l = omega (arith, v .loop .inv .1 .within, length-drop (v .loop .at) (sheet v))
+
+all-read : (c : tie.After-loop Inv-loop μ-loop) → let v = c .before in SoFar (n v) (sheet v) (v .loop .next) (v .loop .barred) (v .loop .at) (n v)
+all-read c = so-far-all (c .before .loop .inv .1) (omega arith)
 
 -- ---- the answers
 
@@ -87,8 +116,8 @@ array-write-barred c = search needs
 
 add-at : tie.Need-add-at Inv-loop μ-loop
 add-at c =
-    let e = c .before .before .before .before .before .before .before .before in
-    omega (arith, whole (c .before .before .before) .0 .within, length-drop (e .before .loop .at) (sheet e), e .before .loop .inv .1 .within, e .before .before .before .good)
+    let v = turn (read-whole (stored c)) in
+    omega (arith, place-fits v _ (whole (stored c) .0 .within), start v .good)
 
 add-i : tie.Need-add-i Inv-loop μ-loop
 add-i c = search needs
@@ -98,51 +127,49 @@ loop-less c = search needs
 
 loop-again : tie.Need-loop-again Inv-loop μ-loop
 loop-again c =
-    let l = c .before .before .before .before .before .before .before .before .before .loop in
-    let r = whole (c .before .before .before) in
-    (omega arith, so-far-more (l .inv .1) (r .0) _ _ (r .1) (ap₂ (λ (f w : ℕ). bitAnd f (18446744073709551615 - w)) (c .before .before .full .ensures) (r .2)) (omega arith))
+    let r = whole (stored c) in
+    let bars = ap₂ (λ (f w : ℕ). bitAnd f (18446744073709551615 - w)) (c .before .before .full .ensures) (r .2) in
+    (omega arith, so-far-more (turn (read-whole (stored c)) .loop .inv .1) (r .0) _ _ (r .1) bars (omega arith))
 
 enum-known-read-2 : tie.Need-enum-known-read-2 Inv-loop μ-loop
 enum-known-read-2 c = search needs
 
 add-refused : tie.Need-add-refused Inv-loop μ-loop
 add-refused c =
-    let e = c .before .before .before .before .before in
-    omega (arith, broken c .within, length-drop (e .before .loop .at) (sheet e), e .before .loop .inv .1 .within, e .before .before .before .good)
+    let v = turn (read-fault c) in
+    omega (arith, place-fits v _ (broken c .within), start v .good)
 
 refused-requires : tie.Need-refused-requires Inv-loop μ-loop
 refused-requires c κs = search needs
 
 returns : tie.Need-returns Inv-loop μ-loop
 returns c =
-    let e = c .before .before .before .before .before .before in
-    c .refused .ensures ∙ sym (so-far-fault (e .before .loop .inv .1) (e .before .before .before .args .limit) (omega arith) (broken (c .before)))
+    let v = turn (read-fault (c .before)) in
+    c .refused .ensures ∙ sym (so-far-fault (v .loop .inv .1) (start v .args .limit) (omega arith) (broken (c .before)))
 
 refused-requires-2 : tie.Need-refused-requires-2 Inv-loop μ-loop
 refused-requires-2 c κs = search needs
 
 returns-2 : tie.Need-returns-2 Inv-loop μ-loop
 returns-2 c =
-    let all = so-far-all (c .before .before .before .loop .inv .1) (omega arith) in
-    c .refused2 .ensures ∙ sym (so-far-over (c .before .before .before .before .before .args .limit) all (c .before .if1 .taken))
+    let e = c .before .before in
+    c .refused2 .ensures ∙ sym (so-far-over (start (e .before) .args .limit) (all-read e) (c .before .if1 .taken))
 
 table-of-requires : tie.Need-table-of-requires Inv-loop μ-loop
 table-of-requires c κs =
-    let l = c .before .before .before .before in
-    let s = l .before .before in
-    let all = so-far-all (l .loop .inv .1) (omega arith) in
-    (s .pre .0, so-far-square (s .args .limit) all (s .pre .0))
+    let s = start (ended c .before) in
+    (s .pre .0, so-far-square (s .args .limit) (all-read (ended c)) (s .pre .0))
 
 fresh-requires : tie.Need-fresh-requires Inv-loop μ-loop
 fresh-requires c κs = search needs
 
 returns-3 : tie.Need-returns-3 Inv-loop μ-loop
 returns-3 c =
-    let a = c .before .before .before .before .before .before .before .before .args in
-    let work = c .fresh .ensures ∙ ap (λ (t : List ℕ). fresh (a .n) t (a .limit)) (c .before .table-of .ensures) in
+    let e = ended (made-table c .before) in
+    let s = start (e .before) in
+    let work = c .fresh .ensures ∙ ap (λ (t : List ℕ). fresh (s .args .n) t (s .args .limit)) (made-table c .table-of .ensures) in
     let taken : Work → Opened = λ w. record { answer = Taken; at = 0; work = w } in
-    let all = so-far-all (c .before .before .before .before .before .before .loop .inv .1) (omega arith) in
-    ap taken work ∙ sym (so-far-whole (a .limit) all (omega arith) (c .before .before .before .before .before .before .before .before .pre .0))
+    ap taken work ∙ sym (so-far-whole (s .args .limit) (all-read e) (omega arith) (s .pre .0))
 
 pub open-records-spec : {M : Type 1} → statement M
 open-records-spec =

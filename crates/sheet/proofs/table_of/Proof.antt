@@ -19,6 +19,19 @@ Inv-loop n next barred rows₀ cols i₀ rows i = (i ≤ 64) × Changed 64 (lega
 abbrev μ-loop : tie.MeasureT-loop
 μ-loop n next barred rows₀ cols i₀ rows i = 64 - i
 
+-- ---- places in the code
+
+abbrev gathered : tie.At-loop Inv-loop μ-loop → tie.After-columns Inv-loop μ-loop
+gathered c = c .before
+
+abbrev filled : tie.At-loop Inv-loop μ-loop → tie.After-full Inv-loop μ-loop
+filled c = gathered c .before .before
+
+abbrev start : tie.At-loop Inv-loop μ-loop → tie.Start Inv-loop μ-loop
+start c = filled c .before
+
+-- ---- the answers
+
 full-requires : tie.Need-full-requires Inv-loop μ-loop
 full-requires c κs = search needs
 
@@ -59,20 +72,21 @@ loop-less c = search needs
 
 loop-again : tie.Need-loop-again Inv-loop μ-loop
 loop-again c =
-    let l = c .before .before .loop in
-    let e = c .before .before .before .before .before .before in
+    let v = c .before .before in
+    let l = v .loop in
+    let e = start v in
     let next : List ℕ = e .args .next .now in
     let i : ℕ = l .i in
     let word : ℕ → List ℕ → ℕ = λ w t. bitAnd w (bitAnd (getD next i 0) ((2 ^ 64 - 1) - getD t i 0)) in
     let own : getD (l .rows) i 0 ≡ getD (fullTable (e .args .n)) i 0 =
-    changed-here 0 (l .inv .1) ∙ ap (λ (t : List ℕ). getD t i 0) (c .before .before .before .before .before .full .ensures ∙ ap fullTable (capped-small (e .args .n) (e .pre .0))) in
+    changed-here 0 (l .inv .1) ∙ ap (λ (t : List ℕ). getD t i 0) (filled v .full .ensures ∙ ap fullTable (capped-small (e .args .n) (e .pre .0))) in
     let below : i < 64 = omega arith in
-    let is = ap₂ word own (c .before .before .before .columns .ensures) ∙ row-is (e .args .n) i next (e .args .barred .now) (e .pre .0) below in
+    let is = ap₂ word own (gathered v .columns .ensures) ∙ row-is (e .args .n) i next (e .args .barred .now) (e .pre .0) below in
     (omega arith, changed-more _ (l .inv .1) below is)
 
 returns : tie.Need-returns Inv-loop μ-loop
 returns c =
-    let a = c .before .before .before .before .before .args in
+    let a = start (c .before) .args in
     changed-all (c .before .loop .inv .1) (omega arith) ∙ legal-rows (a .n) (a .next .now) (a .barred .now)
 
 pub table-of-spec : {M : Type 1} → statement M

@@ -8,12 +8,12 @@ use lib.Dec.{eqb}
 use lib.ListN.{length, getD, drop}
 use Rattle.bitset.specs.Sets.{has, setOf}
 use Rattle.circuit.specs.declared.card.Answer.{Answer}
-use Rattle.sheet.specs.declared.Field.{Field}
-use Rattle.sheet.specs.declared.Field.the-variants as field
-use Rattle.sheet.specs.declared.Read.{Read}
-use Rattle.sheet.specs.declared.Read.the-variants as read
-use Rattle.sheet.specs.Layout.{Entry, Page, allows, fixes}
-use Rattle.sheet.specs.Open.{Got, got, fault, _then_, readEntries, readEnd}
+use Rattle.sheet.specs.declared.reader.Field.{Field}
+use Rattle.sheet.specs.declared.reader.Field.the-variants as field
+use Rattle.sheet.specs.declared.reader.Read.{Read}
+use Rattle.sheet.specs.declared.reader.Read.the-variants as read
+use Rattle.sheet.specs.Layout.{Entry, allows, fixes}
+use Rattle.sheet.specs.Open.{Got, got, fault}
 
 -- something was read, and the rest starts at the offset `end` of s
 pub record GotAt {A : Type 0} (g : Got A) (s : List ℕ) (end : ℕ) : Type 0 where
@@ -43,10 +43,6 @@ prevOf e = setOf 64 (allows (e .prev))
 abbrev pub IsRecord : Got Entry → List ℕ → Read → Type 0
 IsRecord g s (read.Whole r) = (h : GotAt g s (r .len)) × (r .next ≡ nextOf (h .value)) × (r .prev ≡ prevOf (h .value))
 IsRecord g s (read.Fault a k) = FaultAt g s a k
-
--- the page after its first byte n
-abbrev pub readRest : ℕ → List ℕ → Got Page
-readRest n s = readEntries n n s then λ es r. readEnd (record { stations = n; entries = es }) r
 
 -- the leg i→j stands, where the words say which stations may follow each station and which may not come before it
 abbrev pub legal : List ℕ → List ℕ → ℕ → ℕ → Bool

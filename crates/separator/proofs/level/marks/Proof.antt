@@ -2,39 +2,33 @@
 use native.Mathlib.Omega.{arith}
 use mathlib.Core.Path.{_≡_}
 use Prim.Native.Nat.{_-_, _≤_}
-use Rattle.separator.specs.Level.{stands}
-use Rattle.separator.specs.inner.Spares.{markAt, Side}
+use Rattle.separator.specs.Level.{marked}
+use Rattle.separator.specs.inner.Spares.{Side}
 use Rattle.separator.proofs.SideLaws.{side-start, side-at, side-more}
 use Rattle.separator.proofs.level.marks.Statement.{statement}
 use Rattle.separator.proofs.level.marks.Tie as tie
 
 abbrev Inv-loop : tie.InvT-loop
 Inv-loop rows s parts p out₀ into₀ tails₀ heads₀ c₀ out into tails heads c =
-    (c ≤ p) × Side (markAt rows s parts) c out tails × Side (λ x y. markAt rows s parts y x) c into heads
+    (c ≤ p) × Side (marked 64 rows s parts) c out tails × Side (λ x y. marked 64 rows s parts y x) c into heads
 
 abbrev μ-loop : tie.MeasureT-loop
 μ-loop rows s parts p out₀ into₀ tails₀ heads₀ c₀ out into tails heads c = p - c
 
-ends-bare-requires : tie.Need-ends-bare-requires Inv-loop μ-loop
-ends-bare-requires c κs = tt
+ends-of-requires : tie.Need-ends-of-requires Inv-loop μ-loop
+ends-of-requires c κs = omega arith
 
 loop-holds : tie.Need-loop-holds Inv-loop μ-loop
 loop-holds c =
     let s = c .before in
-    let e = c .ends-bare .ensures in (
-      omega arith,
-      side-start _ _ _ (s .pre .1) (unfold markAt in unfold stands in (e .tail)),
-      side-start _ _ _ (s .pre .2) (unfold markAt in unfold stands in (e .head)),
-    )
+    let e = c .ends-of .ensures in
+    (omega arith, side-start _ _ _ (s .pre .1) (e .tail), side-start _ _ _ (s .pre .2) (e .head))
 
-mul-ends-through : tie.Need-mul-ends-through Inv-loop μ-loop
-mul-ends-through c = omega arith
+add-ends-of : tie.Need-add-ends-of Inv-loop μ-loop
+add-ends-of c = omega arith
 
-element-copy-out-ends-through : tie.Need-element-copy-out-ends-through Inv-loop μ-loop
-element-copy-out-ends-through c = omega arith
-
-ends-through-requires : tie.Need-ends-through-requires Inv-loop μ-loop
-ends-through-requires c κs = tt
+ends-of-requires-2 : tie.Need-ends-of-requires-2 Inv-loop μ-loop
+ends-of-requires-2 c κs = omega arith
 
 mul-out : tie.Need-mul-out Inv-loop μ-loop
 mul-out c = omega arith
@@ -56,11 +50,11 @@ loop-less c = omega arith
 
 loop-again : tie.Need-loop-again Inv-loop μ-loop
 loop-again c =
-    let v = c .before .before .before .before .before .loop in
-    let e = c .before .before .ends-through .ensures in (
+    let v = c .before .before .before .before .loop in
+    let e = c .before .before .ends-of2 .ensures in (
       omega arith,
-      side-more _ (v .c) (v .out) (v .tails) _ _ (v .inv .1) (omega arith) (unfold markAt in unfold stands in (e .tail)) (omega arith),
-      side-more _ (v .c) (v .into) (v .heads) _ _ (v .inv .2) (omega arith) (unfold markAt in unfold stands in (e .head)) (omega arith),
+      side-more _ (v .c) (v .out) (v .tails) _ _ (v .inv .1) (omega arith) (e .tail) (omega arith),
+      side-more _ (v .c) (v .into) (v .heads) _ _ (v .inv .2) (omega arith) (e .head) (omega arith),
     )
 
 returns : tie.Need-returns Inv-loop μ-loop
@@ -76,11 +70,10 @@ marks-spec =
     (tie.spec
     Inv-loop
     μ-loop
-    ends-bare-requires
+    ends-of-requires
     loop-holds
-    mul-ends-through
-    element-copy-out-ends-through
-    ends-through-requires
+    add-ends-of
+    ends-of-requires-2
     mul-out
     element-write-out
     mul-into

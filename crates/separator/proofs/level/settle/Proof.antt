@@ -9,7 +9,7 @@ returns : tie.Need-returns
 returns c =
     let s = c .before in
     let a = s .args in
-    settled-unmarked (a .fits .now) (a .p) (a .s) (a .some) (s .fits .s .fits) (s .fits .some .fits) 0 (omega arith)
+    settled-unmarked (a .fits .now) (a .p) (a .s) (a .some) (s .fits .s .fits) (s .fits .some .fits) (omega arith)
 
 assign-requires : tie.Need-assign-requires
 assign-requires c κs = search needs

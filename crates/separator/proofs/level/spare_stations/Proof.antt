@@ -1,8 +1,7 @@
 -- `level::spare_stations` meets its contract. Assumes nothing.
 use borrow.Author.Needs.{needs}
-use native.Mathlib.Omega.{arith}
 use mathlib.Core.Path.{refl}
-use Rattle.separator.proofs.EndsLaws.{markAt-pair}
+use Rattle.separator.proofs.MarkingLaws.{marked-pair}
 use Rattle.separator.proofs.SideLaws.{side-inside}
 use Rattle.separator.proofs.SpareLaws.{spares-of}
 use Rattle.separator.proofs.level.spare_stations.Statement.{statement}
@@ -15,13 +14,13 @@ settle-requires : tie.Need-settle-requires
 settle-requires c κs =
     let s = c .before .before .before .before in
     let a = s .args in
-    (s .pre .0, side-inside _ (a .s) (λ x y m e. markAt-pair (a .rows .now) (a .s) (a .parts .now) x y m e .0) (c .before .marks .ensures .0))
+    (s .pre, side-inside _ (a .s) (λ x y m e. marked-pair 64 (a .rows .now) (a .s) (a .parts .now) x y m e .0) (c .before .marks .ensures .0))
 
 settle-requires-2 : tie.Need-settle-requires-2
 settle-requires-2 c κs =
     let s = c .before .before .before .before .before .before in
     let a = s .args in
-    (s .pre .0, side-inside _ (a .s) (λ x y m e. markAt-pair (a .rows .now) (a .s) (a .parts .now) y x m e .1) (c .before .before .before .marks .ensures .1))
+    (s .pre, side-inside _ (a .s) (λ x y m e. marked-pair 64 (a .rows .now) (a .s) (a .parts .now) y x m e .1) (c .before .before .before .marks .ensures .1))
 
 returns : tie.Need-returns
 returns c =
@@ -30,8 +29,8 @@ returns c =
     let m = leaving .before .before in
     let s = m .before .before .before in
     let a = s .args in
-    λ n most clean low parted.
-    spares-of n (a .rows .now) most clean (a .s) low (a .p) (a .parts .now) (omega (arith, s .pre .0, s .pre .1)) parted _ _ _ _ _ _ _
+    λ n most clean low listed.
+    spares-of n (a .rows .now) most clean (a .s) low (a .p) (a .parts .now) listed _ _ _ _ _ _ _
     (m .marks .ensures .0) (leaving .settle .ensures) (m .marks .ensures .1) (entering .settle2 .ensures) refl
 
 pub spare-stations-spec : {M : Type 1} → statement M

@@ -17,7 +17,7 @@ use Rattle.bitset.proofs.SetLaws.{has-self}
 use Rattle.bitset.proofs.OnesLaws.{ones-pos}
 use Rattle.bitset.proofs.MachineLaws.{shl-one}
 use Rattle.circuit.specs.Legs.{neighbours}
-use Rattle.separator.specs.inner.Linked.{Linked}
+use Rattle.separator.specs.inner.Reach.{Linked}
 use Rattle.separator.proofs.WidthLaws.{ones-join, fresh-lt, fresh-has}
 use Rattle.separator.proofs.GrowLaws.{Growing, growing-start, growing-turn, growing-end}
 use Rattle.separator.proofs.reach.component.Statement.{statement}

@@ -1,13 +1,13 @@
 -- `separator::reach::components_of` meets its contract. The invariant: the components found, and those of `rest`, are all components; each found has
 -- taken a station out of `rest`. Assumes nothing.
-use mathlib.Core.Path.{_≡_, refl, sym, ap, _∙_, subst}
+use mathlib.Core.Path.{_≡_, refl, sym, _∙_, subst}
 use mathlib.Core.Bool.{not}
 use mathlib.Core.List.{List}
 use Prim.Native.Nat.{ℕ, _+_, _-_, _^_, _≤_, _<_}
 use native.Mathlib.Omega.{arith}
 use lib.Bits.{bitAnd, and-le-l}
 use lib.Count.{ones, ones-le, trailingZeros}
-use lib.ListN.{length, replicate, length-set}
+use lib.ListN.{length, length-set}
 use Rattle.bitset.specs.inner.Members.{Least}
 use Rattle.bitset.specs.Sets.{has}
 use Rattle.bitset.proofs.SetLaws.{setOf-lt}
@@ -15,7 +15,7 @@ use Rattle.bitset.proofs.OnesLaws.{ones-pos}
 use Rattle.bitset.proofs.LeastLaws.{trailing-least}
 use Rattle.circuit.specs.Legs.{neighbours}
 use Rattle.separator.specs.Components.{componentsFrom, components}
-use Rattle.separator.specs.inner.Linked.{Linked}
+use Rattle.separator.specs.inner.Reach.{Linked, Listed}
 use Rattle.separator.proofs.WidthLaws.{member-below}
 use Rattle.separator.proofs.PartLaws.{ones-less, Listing, listing-start, listing-turn, listing-end}
 use Rattle.separator.proofs.reach.components_of.Statement.{statement}
@@ -41,7 +41,7 @@ free c =
 loop-holds : tie.Need-loop-holds Inv-loop μ-loop
 loop-holds c =
     let o : ℕ = c .args .outside in
-    (refl, c .fits .outside .fits, omega (arith, ones-le 64 o (c .fits .outside .fits)), λ n t d h. listing-start n (neighbours t) o (replicate 64 0) h)
+    (refl, c .fits .outside .fits, omega (arith, ones-le 64 o (c .fits .outside .fits)), λ n t d h. listing-start n (neighbours t) o h)
 
 cast-component : tie.Need-cast-component Inv-loop μ-loop
 cast-component c = omega (arith, low c .below)
@@ -81,7 +81,7 @@ loop-again c =
       λ n t d h.
           let g = l .inv .3 n t d h in
           let start = member-below n (l .rest) (trailingZeros 64 (l .rest)) (g .below) (low (c .before) .member) in
-          listing-turn n (neighbours t) o g r (d .most) (omega arith) (omega (arith, free (c .before), l .inv .0)) (c .component .ok)
+          listing-turn n (neighbours t) o g r (d .most) (omega arith) (c .component .ok)
           (c .component .ensures .0) (c .component .ensures .1 n t d start),
     )
 
@@ -89,12 +89,10 @@ returns : tie.Need-returns Inv-loop μ-loop
 unfolding components
 returns c =
     let l = c .before .loop in
-    let o : ℕ = c .before .before .args .outside in (
-      omega (arith, l .inv .2),
-      λ n t s d e.
-          let g = l .inv .3 n t d (subst (λ (x : ℕ). x < 2 ^ n) (sym e) (setOf-lt n (λ k. not (has s k)))) in
-          (omega (arith, g .enough), listing-end n (neighbours t) o g (c .loop-test .left) ∙ ap (λ (x : ℕ). componentsFrom n n (neighbours t) x x) e),
-    )
+    let o : ℕ = c .before .before .args .outside in
+    λ n t s d e.
+    let g = l .inv .3 n t d (subst (λ (x : ℕ). x < 2 ^ n) (sym e) (setOf-lt n (λ k. not (has s k)))) in
+    subst (λ (x : ℕ). Listed (componentsFrom n n (neighbours t) x x) (l .part) (l .count)) e (listing-end n (neighbours t) o g (c .loop-test .left) (d .most))
 
 pub components-of-spec : {M : Type 1} → statement M
 components-of-spec =

@@ -13,7 +13,7 @@ use lib.Pow.{pow-lt}
 use Rattle.bitset.proofs.OnesLaws.{ones-pos}
 use Rattle.bitset.proofs.MachineLaws.{shl-one}
 use Rattle.separator.specs.Levels.{neighbourhood}
-use Rattle.separator.specs.inner.Linked.{Linked}
+use Rattle.separator.specs.inner.Reach.{Linked}
 use Rattle.separator.proofs.WidthLaws.{minus-of, neighbourhood-lt, ones-join}
 use Rattle.separator.proofs.LevelsLaws.{Found, found-start, found-turn, found-end}
 use Rattle.separator.proofs.reach.levels_from.Statement.{statement}
@@ -43,7 +43,7 @@ loop-holds : tie.Need-loop-holds Inv-loop μ-loop
 loop-holds c =
     let seed : ℕ = c .args .seed in
     subst (λ (x : ℕ). Inv (now (c .args .nbr)) seed (replicate 64 0) 0 x x) (sym (shl-one 64 seed (c .pre)))
-    (refl, pow-lt (c .pre), omega arith, λ n t d h. found-start n t seed (replicate 64 0) h)
+    (refl, pow-lt (c .pre), omega arith, λ n t d h. found-start n t seed h)
 
 mul-level : tie.Need-mul-level Inv-loop μ-loop
 mul-level c = omega (arith, free c)
@@ -71,7 +71,7 @@ loop-again c =
       omega (arith, ones-join (l .seen) r (l .inv .1), more, l .inv .2),
       λ n t d h.
           let g = l .inv .3 n t d h in
-          found-turn g v (omega arith) (omega (arith, ones-le n (l .seen) (g .below), l .inv .2, more)) (omega (arith, free (c .before), l .inv .0))
+          found-turn g v (omega arith) (omega (arith, ones-le n (l .seen) (g .below), l .inv .2, more)) (d .most)
           (ap (λ (x : ℕ). bitAnd x ((2 ^ 64 - 1) - l .seen)) (c .neighbourhood .ensures n t d (g .small))
           ∙ minus-of (neighbourhood n t (l .last)) (l .seen) (d .most) (neighbourhood-lt n t (l .last)) (l .inv .1)),
     )
@@ -79,13 +79,7 @@ loop-again c =
 returns : tie.Need-returns Inv-loop μ-loop
 returns c =
     let l = c .before .loop in
-    let most : l .count ≤ 64 = omega (arith, ones-le 64 (l .seen) (l .inv .1), l .inv .2) in (
-      most,
-      λ n t d h.
-          let g = l .inv .3 n t d h in
-          let e = found-end g (c .loop-test .left) (omega (arith, l .inv .0)) in
-          (omega (arith, ones-le n (l .seen) (g .below), l .inv .2), e .0, e .1),
-    )
+    λ n t d h. found-end (l .inv .3 n t d h) (c .loop-test .left) (omega (arith, ones-le 64 (l .seen) (l .inv .1), l .inv .2))
 
 pub levels-from-spec : {M : Type 1} → statement M
 levels-from-spec =

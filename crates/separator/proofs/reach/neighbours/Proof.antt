@@ -1,32 +1,36 @@
 -- `separator::reach::neighbours` meets its contract. The invariant: the words of the stations below i are filled in. Assumes nothing.
 use borrow.Author.Needs.{needs}
 use denote.Ref.{now}
-use mathlib.Core.Path.{_≡_, ap, _∙_}
+use mathlib.Core.Path.{_≡_, sym, ap, _∙_}
+use mathlib.Core.Bool.{cond}
 use mathlib.Core.List.{List}
 use Prim.Native.Nat.{ℕ, _-_, _≤_, _<_}
 use native.Mathlib.Omega.{arith}
 use lib.Bits.{bitOr}
-use lib.ListN.{getD, length-replicate}
+use lib.Dec.{ltb}
+use lib.ListN.{replicate, length-replicate, getD-replicate}
+use borrow.Author.Tests.{lt-ltb, le-ltb}
 use Rattle.bitset.specs.Sets.{setOf}
-use Rattle.bitset.proofs.UptoLaws.{Filled, filled-none, filled-more, getD-upto}
-use Rattle.circuit.specs.Legs.{col, neighbours}
+use Rattle.bitset.specs.Upto.{row}
+use Rattle.bitset.proofs.BoolLaws.{cond-true, cond-false}
+use Rattle.bitset.proofs.UptoLaws.{Changed, changed-none, changed-more, changed-end, getD-upto}
+use Rattle.circuit.specs.Legs.{col, neighbours, tableOf}
 use Rattle.separator.proofs.WidthLaws.{neighbours-of}
-use Rattle.separator.proofs.ArrayLaws.{filled-at}
 use Rattle.separator.proofs.reach.neighbours.Statement.{statement}
 use Rattle.separator.proofs.reach.neighbours.Tie as tie
 
--- the neighbours of station i of n
+-- word i: the neighbours of i, or 0 beyond the n stations
 abbrev word : ℕ → List ℕ → ℕ → ℕ
-word n t i = setOf n (neighbours t i)
+word n t i = cond (ltb i n) (setOf n (neighbours t i)) 0
 
 abbrev Inv-loop : tie.InvT-loop
-Inv-loop rows cols n out₀ i₀ out i = (i ≤ n) × Filled 64 (word n rows) i out
+Inv-loop rows cols n out₀ i₀ out i = (i ≤ n) × Changed 64 (word n rows) (replicate 64 0) i out
 
 abbrev μ-loop : tie.MeasureT-loop
 μ-loop rows cols n out₀ i₀ out i = n - i
 
 loop-holds : tie.Need-loop-holds Inv-loop μ-loop
-loop-holds c = (omega arith, filled-none 64 _ _ (length-replicate {A = ℕ} 64 0))
+loop-holds c = (omega arith, changed-none 64 _ _ (length-replicate {A = ℕ} 64 0))
 
 mul-out : tie.Need-mul-out Inv-loop μ-loop
 mul-out c = search needs
@@ -58,18 +62,22 @@ loop-again c =
     let a = c .before .before .before .before .args in
     let p = c .before .before .before .before .pre in
     let rows : List ℕ = now (a .rows) in
+    let below : l .i < a .n = omega arith in
     let low : l .i < 64 = omega arith in
-    let column : getD (now (a .cols)) (l .i) 0 ≡ col (a .n) rows (l .i) =
-    ap (λ (x : List ℕ). getD x (l .i) 0) (p .2) ∙ getD-upto 64 (col (a .n) rows) 0 (l .i) low
+    let column : row (now (a .cols)) (l .i) ≡ col (a .n) rows (l .i) =
+    ap (λ (x : List ℕ). row x (l .i)) (p .2) ∙ getD-upto 64 (col (a .n) rows) 0 (l .i) low
     in (
       omega arith,
-      filled-more _ (l .inv .1) low (ap (λ (x : ℕ). bitOr (getD rows (l .i) 0) x) column ∙ neighbours-of (a .n) (l .i) rows (p .1 (l .i) (omega arith))),
+      changed-more _ (l .inv .1) low
+          (ap (bitOr (row rows (l .i))) column ∙ neighbours-of (a .n) (l .i) rows (p .1 (l .i) below) ∙ sym (cond-true _ 0 (lt-ltb (l .i) (a .n) below))),
     )
 
 returns : tie.Need-returns Inv-loop μ-loop
+unfolding tableOf
 returns c =
     let l = c .before .loop in
-    record { most = c .before .before .pre .0; words = λ i d. filled-at 0 (l .inv .1) i (omega arith) }
+    let n : ℕ = c .before .before .args .n in
+    changed-end 0 (l .inv .1) (λ k g m. getD-replicate {A = ℕ} 64 k 0 0 m ∙ sym (cond-false _ 0 (le-ltb k n (omega arith))))
 
 pub neighbours-spec : {M : Type 1} → statement M
 neighbours-spec =

@@ -1,0 +1,82 @@
+-- What a refused call hands back. Assumes nothing.
+use mathlib.Core.Path.{_≡_, refl, sym, ap, _∙_}
+use mathlib.Core.Logic.{⊎-elim}
+use mathlib.Core.Bool.{Bool, true, false, not, cond, _||_}
+use mathlib.Core.List.{List}
+use Prim.Native.Nat.{ℕ}
+use lib.Dec.{eqb, ltb}
+use lib.ListN.{length}
+use Rattle.bitset.specs.Sets.{outside}
+use Rattle.bitset.proofs.BoolLaws.{cases, cond-elim, cond-true, cond-false}
+use Rattle.circuit.specs.declared.card.Answer.the-variants.{Taken, BadLimit, BadWork, StraySeed, WrongLength}
+use Rattle.circuit.specs.declared.list.Checked.{Checked}
+use Rattle.circuit.specs.declared.state.Work.{Work}
+use Rattle.circuit.specs.declared.verdict.Verdict.{Verdict}
+use Rattle.circuit.specs.State.{isNone, rowsOf, blank, bad}
+use Rattle.circuit.specs.Check.{isList, checkCall}
+use Rattle.sheet.specs.declared.Opened.{Opened}
+use Rattle.sheet.specs.Layout.{Page}
+use Rattle.sheet.specs.Open.{Got, got, fault, readPage, refused, opened, openCall}
+use Rattle.writer.specs.Lent.{short, written}
+use Rattle.report.specs.Lines.{text, reportCall, reportBytes}
+use Rattle.filter.specs.declared.rule.Rule.{Rule}
+use Rattle.filter.specs.declared.hand.Called.{Called}
+use Rattle.filter.specs.declared.cycle.Ran.{Ran}
+use Rattle.filter.specs.Rule.{straySeed}
+use Rattle.filter.specs.Calls.{verdict, gone, halted, reopened, unchanged, byHand, handCall, idle, runFrom, runCall}
+use Rattle.filter.proofs.RunLaws.{run-taken}
+use Rattle.demands.specs.Demands.{Refusal}
+
+-- ---- opening
+
+read-refused : (len limit : ℕ) (g : Got Page) → Refusal (opened len limit g .answer) → opened len limit g .work ≡ blank
+unfolding opened
+read-refused len limit (fault c s) h = refl
+read-refused len limit (got p s) h = absurd (h refl)
+
+pub opening-refused : (s : List ℕ) (limit : ℕ) → Refusal (openCall s limit .answer) → openCall s limit .work ≡ blank
+unfolding openCall
+opening-refused s limit =
+    cond-elim (λ (o : Opened). Refusal (o .answer) → o .work ≡ blank) (outside 1 64 limit) (refused BadLimit 0) (opened (length s) limit (readPage s)) (λ _ h. refl) (λ _. read-refused (length s) limit (readPage s))
+
+-- ---- the calls by hand and the run
+
+hand-taken : (w : Work) (v : Verdict) → byHand w v .answer ≡ Taken
+unfolding byHand
+hand-taken w v =
+    cond-elim (λ (c : Called). c .answer ≡ Taken) (isNone (w .end)) (unchanged Taken w)
+    (record { answer = Taken; work = cond (v .none) (halted w v) (cond (ltb 0 (gone w v)) (reopened w v) w); removed = gone w v }) (λ _. refl) (λ _. refl)
+
+pub hand-refused : (w : Work) (r : Rule) → Refusal (handCall w r .answer) → handCall w r ≡ unchanged (handCall w r .answer) w
+unfolding handCall
+hand-refused w r =
+    cond-elim kept (bad w) (unchanged BadWork w) (cond (straySeed (w .n) r) (unchanged StraySeed w) (byHand w (verdict w r))) (λ _ _. refl) (λ _.
+    cond-elim kept (straySeed (w .n) r) (unchanged StraySeed w) (byHand w (verdict w r)) (λ _ _. refl) (λ _ h. absurd (h (hand-taken w (verdict w r)))))
+  where
+    kept : Called → Type 0
+    kept c = Refusal (c .answer) → c ≡ unchanged (c .answer) w
+
+pub run-refused : (w : Work) (budget : ℕ) → Refusal (runCall w budget .answer) → runCall w budget ≡ idle (runCall w budget .answer) w
+unfolding runCall
+run-refused w budget =
+    cond-elim (λ (r : Ran). Refusal (r .answer) → r ≡ idle (r .answer) w) (bad w) (idle BadWork w) (runFrom budget w) (λ _ _. refl) (λ _ h. absurd (h (run-taken budget w)))
+
+-- ---- the list check and the report
+
+pub list-refused : (w : Work) (s : List ℕ) → Refusal (checkCall w s .answer) → checkCall w s .yes ≡ false
+unfolding checkCall
+list-refused w s =
+    cond-elim no (bad w) (record { answer = BadWork; yes = false }) (cond (not (eqb (length s) (w .n))) (record { answer = WrongLength; yes = false }) yes) (λ _ _. refl) (λ _.
+    cond-elim no (not (eqb (length s) (w .n))) (record { answer = WrongLength; yes = false }) yes (λ _ _. refl) (λ _ h. absurd (h refl)))
+  where
+    no : Checked → Type 0
+    no c = Refusal (c .answer) → c .yes ≡ false
+
+    yes : Checked
+    yes = record { answer = Taken; yes = isList (w .n) (rowsOf w) s }
+
+pub report-refused : (w : Work) (buffer : List ℕ) → Refusal (reportCall w buffer .answer) → (reportCall w buffer .len ≡ 0) × (reportBytes w buffer ≡ buffer)
+unfolding reportCall reportBytes written
+report-refused w buffer h =
+    ⊎-elim (λ (e : bad w ≡ true). (rw e, rw e)) (λ (e : bad w ≡ false).
+    ⊎-elim (λ (s : short (text w) buffer ≡ true). (rw (e, s), rw (e, s))) (λ (s : short (text w) buffer ≡ false). absurd (h (rw (e, s)))) (cases (short (text w) buffer))) (cases (bad w))

@@ -1,0 +1,75 @@
+-- The demands of the paper, beside the equations that the calls promise.
+use mathlib.Core.Path.{_≡_}
+use mathlib.Core.Bool.{true, false}
+use mathlib.Core.List.{List, [], _∷_, _++_}
+use Prim.Native.Nat.{ℕ, _+_, _≤_, _<_}
+use lib.ListN.{length}
+use Rattle.circuit.specs.declared.card.Answer.{Answer}
+use Rattle.circuit.specs.declared.state.Work.{Work}
+use Rattle.circuit.specs.Card.{card, ending}
+use Rattle.circuit.specs.Legs.{leg, legs, Subtable}
+use Rattle.circuit.specs.Round.{RoundOf, Drivable}
+use Rattle.circuit.specs.State.{rowsOf, blank, bad, Good}
+use Rattle.circuit.specs.Check.{checkCall, ListsRound}
+use Rattle.sheet.specs.Layout.{Entry, Page, entriesBytes, bytesOf, Each, EntryFits, WellFormed}
+use Rattle.sheet.specs.Open.{refused, openedPage, openCall, TakenSheet}
+use Rattle.report.specs.Lines.{reportCall, reportBytes}
+use Rattle.filter.specs.declared.rule.Rule.{Rule}
+use Rattle.filter.specs.Calls.{unchanged, handCall, idle, runCall}
+use Rattle.filter.specs.Leads.{Budgets}
+use Rattle.demands.specs.Sequence.{Call, handed, afterAll}
+
+-- the answer is a refusal
+abbrev pub Refusal : Answer → Type 0
+Refusal a = a ≡ card 0 → ⊥
+
+-- Demand 1: conforming sheets are taken, and no others; a refusal hands back what it must, and changes no byte
+pub record Demand1 : Type 0 where
+  -- the bytes of a well-formed page are taken with a good limit, and the table has exactly the legs of the leg rule
+  pub sheets : (p : Page) (limit : ℕ) → WellFormed p → 1 ≤ limit → limit ≤ 64 → openCall (bytesOf p) limit ≡ openedPage p limit
+  -- what is taken is the bytes of a well-formed page, with a good limit, and gives that page
+  pub no-others : (s : List ℕ) (limit : ℕ) → openCall s limit .answer ≡ card 0 → TakenSheet s limit
+  -- an unknown bit after well-formed records is refused with 3 at its byte, whatever follows
+  pub unknown : (n : ℕ) (es : List Entry) (m : ℕ) (rest : List ℕ) (limit : ℕ)
+      → 2 ≤ n → n ≤ 64 → length es < n → Each (EntryFits n) es → 8 ≤ m → 1 ≤ limit → limit ≤ 64
+      → openCall (n ∷ entriesBytes es (m ∷ rest)) limit ≡ refused (card 3) (1 + length (entriesBytes es []))
+  -- a refused opening hands back the blank work state
+  pub opening : (s : List ℕ) (limit : ℕ) → Refusal (openCall s limit .answer) → openCall s limit .work ≡ blank
+  -- a refused call by hand or run hands back the given state, with zero removals and steps
+  pub byHand : (w : Work) (r : Rule) → Refusal (handCall w r .answer) → handCall w r ≡ unchanged (handCall w r .answer) w
+  pub run : (w : Work) (budget : ℕ) → Refusal (runCall w budget .answer) → runCall w budget ≡ idle (runCall w budget .answer) w
+  -- a refused list check says no
+  pub list : (w : Work) (s : List ℕ) → Refusal (checkCall w s .answer) → checkCall w s .yes ≡ false
+  -- a refused report has length 0 and changes no byte
+  pub report : (w : Work) (buffer : List ℕ) → Refusal (reportCall w buffer .answer) → (reportCall w buffer .len ≡ 0) × (reportBytes w buffer ≡ buffer)
+
+-- Demand 2: the calls' complete results are the equations that they promise; this is what those say of removals, steps and rounds
+pub record Demand2 : Type 0 where
+  -- removals are legs before less legs after
+  pub removed : (w : Work) (r : Rule) → handCall w r .removed + legs (w .n) (rowsOf (handCall w r .work)) ≡ legs (w .n) (rowsOf w)
+  pub run-removed : (w : Work) (budget : ℕ) → runCall w budget .removed + legs (w .n) (rowsOf (runCall w budget .work)) ≡ legs (w .n) (rowsOf w)
+  -- a run takes no more steps than its budget, and stops open only where the budget is spent
+  pub steps : (w : Work) (budget : ℕ) → runCall w budget .steps ≤ budget
+  pub spent : (w : Work) (budget : ℕ) → bad w ≡ false → runCall w budget .work .end ≡ ending "open" → runCall w budget .steps ≡ budget
+  -- n and the limit never change
+  pub stations : (w : Work) (c : Call) → handed w c .n ≡ w .n
+  pub limit : (w : Work) (c : Call) → handed w c .limit ≡ w .limit
+  -- the list check says yes exactly of a good state and the list of a round of its table
+  pub rounds : (w : Work) (s : List ℕ) → checkCall w s .yes ≡ true → Good w × ListsRound (w .n) (rowsOf w) s
+  pub listed : (w : Work) (s : List ℕ) → Good w → ListsRound (w .n) (rowsOf w) s → checkCall w s .yes ≡ true
+
+-- of the list of calls cs, from the opened state w
+pub record Kept (w : Work) (cs : List Call) : Type 0 where
+  -- every drivable leg still stands
+  pub drivable : (i j : ℕ) → Drivable (w .n) (rowsOf w) i j → leg (rowsOf (afterAll w cs)) i j ≡ true
+  -- the end is none only where the opened table has no round
+  pub none : afterAll w cs .end ≡ ending "none" → (h : ℕ → ℕ) → RoundOf (w .n) (rowsOf w) h → ⊥
+  -- no leg stands that was missing from the opened table (the empty beginning) or after any earlier call
+  pub missing : (before later : List Call) → cs ≡ before ++ later → Subtable (rowsOf (afterAll w cs)) (rowsOf (afterAll w before))
+
+-- Demand 3: what a list of calls from an opened sheet keeps, and two budgets from any work state
+pub record Demand3 : Type 0 where
+  pub list : (sheet : List ℕ) (limit : ℕ) → openCall sheet limit .answer ≡ card 0 → (cs : List Call) → Kept (openCall sheet limit .work) cs
+  pub budgets : (w : Work) (a b : ℕ) → a ≤ b → Budgets w a b
+  -- a bad state is refused under every budget and comes back as it was
+  pub refused : (w : Work) (budget : ℕ) → bad w ≡ true → runCall w budget ≡ idle (card 7) w

@@ -1,0 +1,18 @@
+-- `filter::taken` meets its contract.
+use borrow.Author.Needs.{needs}
+use mathlib.Core.Path.{sym, _∙_}
+use Rattle.bitset.proofs.BoolLaws.{cond-true, cond-false}
+use Rattle.filter.proofs.sweeping.taken.Statement.{statement}
+use Rattle.filter.proofs.sweeping.taken.Tie as tie
+
+contains-requires : tie.Need-contains-requires
+contains-requires c κs = search needs
+
+returns : tie.Need-returns
+returns c = sym (cond-true _ _ (sym (c .before .contains .ensures) ∙ c .if1 .taken))
+
+returns-2 : tie.Need-returns-2
+returns-2 c = sym (cond-false _ _ (sym (c .before .contains .ensures) ∙ c .if1 .left))
+
+pub taken-spec : {M : Type 1} → statement M
+taken-spec = tie.close (tie.spec contains-requires returns returns-2)

@@ -1,0 +1,125 @@
+// The sweep on words: which stations have one leg only, and what that leaves of each row.
+ghost use denote.Ref.{now};
+ghost use mathlib.Core.Path.{_≡_};
+ghost use mathlib.Core.Bool.{false, cond, _&&_};
+ghost use Prim.Native.Nat.{ℕ, _<_, _≤_};
+ghost use lib.ListN.{length};
+ghost use Rattle.bitset.specs.Sets.{has};
+ghost use Rattle.circuit.specs.Legs.{columns};
+ghost use Rattle.circuit.specs.State.{stray};
+ghost use Rattle.circuit.specs.inner.Tables.{Columned};
+ghost use Rattle.filter.specs.Sweep.{swept, sweep};
+ghost use Rattle.filter.specs.inner.Singles.{single, SinglesOf, keeps};
+ghost use Rattle.filter.specs.inner.Steps.{TableTaken};
+
+// Of the first words of a list: some word is empty; which words have one member only; the members of these; the members of two of these.
+struct Singles {
+    empty: bool,
+    which: u64,
+    once: u64,
+    twice: u64,
+}
+
+// The word, where it has one member only.
+fn only_member(w: u64) -> u64
+    ensures { λ r. ⌜ r ≡ cond (single w) w 0 ⌝ }
+{
+    if u64::count_ones(w) == 1 { w } else { 0 }
+}
+
+fn single_words(words: &[u64; 64], n: usize) -> Singles
+    requires { ⌜ n ≤ 64 ⌝ }
+    ensures { λ r. ⌜ SinglesOf n (now (words .entry)) r ⌝ }
+{
+    let mut empty = false;
+    let mut which = 0u64;
+    let mut once = 0u64;
+    let mut twice = 0u64;
+    let mut k = 0usize;
+    while k < n {
+        let word = words[k];
+        let w = only_member(word);
+        empty = empty | (word == 0);
+        which = bitset::insert_if(which, k, w);
+        twice |= once & w;
+        once |= w;
+        k += 1;
+    }
+    Singles {
+        empty,
+        which,
+        once,
+        twice,
+    }
+}
+
+// The stations that another station has as its only next, for the station i.
+fn taken(next: Singles, i: usize) -> u64
+    requires { ⌜ i < 64 ⌝ }
+    ensures { λ r. ⌜ r ≡ cond (has (next .which) i) (next .twice) (next .once) ⌝ }
+{
+    if bitset::contains(next.which, i) {
+        return next.twice;
+    }
+    next.once
+}
+
+// What the sweep leaves of the row of i.
+fn swept_row(row: u64, i: usize, next: Singles, prev: Singles) -> u64
+    requires { ⌜ i < 64 ⌝ }
+    ensures { λ r. ⌜ ((j : ℕ) → j < 64 → has r j ≡ has row j && keeps next prev i j) ⌝ }
+{
+    let left = row & !taken(next, i);
+    if bitset::contains(prev.twice, i) {
+        return 0;
+    }
+    if bitset::contains(prev.once, i) {
+        return left & prev.which;
+    }
+    left
+}
+
+// Sweeps each row. Answers whether a leg went.
+fn sweep_words(rows: &mut [u64; 64], n: usize, next: Singles, prev: Singles) -> bool
+    requires { ⌜ (n ≤ 64) × (length (now rows) ≡ 64) × (stray n (now rows) ≡ false) × SinglesOf n (now rows) next × SinglesOf n (columns n (now rows)) prev ⌝ }
+    ensures { λ r. ⌜ (now (rows .exit) ≡ swept n (now (rows .entry))) × (r ≡ false → now (rows .exit) ≡ now (rows .entry)) ⌝ }
+{
+    let mut struck = false;
+    let mut i = 0usize;
+    while i < n {
+        let row = rows[i];
+        let left = swept_row(row, i, next, prev);
+        struck = struck | (left != row);
+        rows[i] = left;
+        i += 1;
+    }
+    struck
+}
+
+fn copy_words(from: &[u64; 64], to: &mut [u64; 64])
+    requires { ⌜ (length (now from) ≡ 64) × (length (now to) ≡ 64) ⌝ }
+    ensures { λ _. ⌜ now (to .exit) ≡ now (from .entry) ⌝ }
+{
+    let mut i = 0usize;
+    while i < 64 {
+        to[i] = from[i];
+        i += 1;
+    }
+}
+
+// The sweep, on the rows and the columns alike: columns are gathered again where a leg went. Answers whether the verdict is none.
+pub(crate) fn sweep_on(rows: &mut [u64; 64], cols: &mut [u64; 64], n: usize) -> bool
+    requires { ⌜ (n ≤ 64) × Columned n (now rows) (now cols) ⌝ }
+    ensures { λ r. ⌜ TableTaken n (sweep n (now (rows .entry))) r (now (rows .exit)) (now (cols .exit)) ⌝ }
+{
+    let next = single_words(rows, n);
+    let prev = single_words(cols, n);
+    if next.empty | prev.empty {
+        return true;
+    }
+    if sweep_words(rows, n, next, prev) {
+        let fresh = circuit::columns(rows, n);
+        copy_words(&fresh, cols);
+    }
+    false
+}

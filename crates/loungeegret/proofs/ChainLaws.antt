@@ -1,0 +1,107 @@
+-- A chain of C calls on the same lent words is the chain of calls of demand 3. Assumes nothing.
+use mathlib.Core.Path.{_≡_, refl, sym, ap, _∙_, subst}
+use mathlib.Core.Logic.{⊎-elim}
+use mathlib.Core.Bool.{true, false}
+use mathlib.Core.List.{List, [], _∷_, _++_}
+use Prim.Native.Nat.{ℕ, _≤_}
+use native.Mathlib.Omega.{arith}
+use lib.ListN.{length, drop, length-append, length-replicate}
+use lib.Seq.{drop-at}
+use borrow.Author.Tests.{le-ltb}
+use Rattle.bitset.specs.Sets.{outside}
+use Rattle.bitset.proofs.BoolLaws.{cases, not-both, cond-elim, cond-true, cond-false}
+use Rattle.circuit.specs.declared.card.Answer.{Answer}
+use Rattle.circuit.specs.declared.card.Answer.the-variants.{BadLimit}
+use Rattle.circuit.specs.declared.state.Work.{Work}
+use Rattle.circuit.specs.State.{rowsOf}
+use Rattle.circuit.proofs.LegsLaws.{length-tableOf}
+use Rattle.sheet.specs.declared.Opened.{Opened}
+use Rattle.sheet.specs.Layout.{Page, given}
+use Rattle.sheet.specs.Open.{Got, got, fault, readPage, refused, opened, openCall}
+use Rattle.filter.specs.declared.hand.Called.{Called}
+use Rattle.filter.specs.declared.cycle.Ran.{Ran}
+use Rattle.filter.specs.Calls.{handCall, runCall}
+use Rattle.filter.specs.Leads.{All}
+use Rattle.filter.proofs.CallLaws.{handCall-leads, runCall-leads}
+use Rattle.demands.specs.Sequence.{Call, calling, running, checking, reporting, handed, afterAll}
+use Rattle.demands.specs.Demands.{Refusal}
+use Rattle.demands.proofs.RefusalLaws.{hand-refused, run-refused}
+use Rattle.loungeegret.specs.Words.{stateWords, loaded, stored, storedIn}
+use Rattle.loungeegret.specs.Results.{onState, refuses, wordsAfter}
+use Rattle.loungeegret.specs.Chain.{openedWords, wordsBack, wordsHanded, wordsAll, Chained}
+use Rattle.loungeegret.proofs.WordsLaws.{length-stored, loaded-stored}
+
+-- words that suffice are written
+on-state : {A : Type 0} (s : List ℕ) (x y : A) → stateWords ≤ length s → onState s x y ≡ y
+unfolding onState
+on-state s x y h = cond-false x y (le-ltb (length s) stateWords h)
+
+-- the words s hold the state w, and after it what the words o have
+record Holds (o s : List ℕ) (w : Work) : Type 0 where
+  enough : stateWords ≤ length s
+  is : loaded s ≡ w
+  long : length (rowsOf w) ≡ 64
+  rest : drop stateWords s ≡ drop stateWords o
+
+-- a state that is stored
+stored-holds : (o s : List ℕ) (w : Work) → drop stateWords s ≡ drop stateWords o → length (rowsOf w) ≡ 64 → Holds o (storedIn s w) w
+unfolding storedIn
+stored-holds o s w r long =
+    let size = length-stored w long in
+    record {
+      enough = omega (arith, length-append (stored w) (drop stateWords s), size);
+      is = loaded-stored w long (drop stateWords s);
+      long = long;
+      rest = drop-at (stored w) (drop stateWords s) stateWords size ∙ r;
+    }
+
+back-holds : (o s : List ℕ) (w : Work) → Holds o s w → (a : Answer) (u : Work) → (refuses a ≡ true → u ≡ w) → length (rowsOf u) ≡ 64 → Holds o (wordsBack s a u) u
+unfolding wordsAfter
+back-holds o s w H a u same long = ⊎-elim kept put (cases (refuses a))
+  where
+    kept : refuses a ≡ true → Holds o (wordsBack s a u) u
+    kept e = subst (λ (x : List ℕ). Holds o x u) (sym (on-state s s (wordsAfter s a u) (H .enough) ∙ cond-true s (storedIn s u) e)) (subst (Holds o s) (sym (same e)) H)
+
+    put : refuses a ≡ false → Holds o (wordsBack s a u) u
+    put e = subst (λ (x : List ℕ). Holds o x u) (sym (on-state s s (wordsAfter s a u) (H .enough) ∙ cond-false s (storedIn s u) e)) (stored-holds o s u (H .rest) long)
+
+-- the answer of a refused call is a refusal
+refusal : (a : Answer) → refuses a ≡ true → Refusal a
+refusal a e q = not-both e (ap refuses q)
+
+handed-holds : (o s : List ℕ) (w : Work) → Holds o s w → (c : Call) → Holds o (wordsHanded s c) (handed w c)
+unfolding wordsHanded handed
+handed-holds o s w H (calling r) =
+    subst (λ (v : Work). Holds o (wordsBack s (handCall v r .answer) (handCall v r .work)) (handCall w r .work)) (sym (H .is))
+    (back-holds o s w H (handCall w r .answer) (handCall w r .work)
+    (λ e. ap (λ (c : Called). c .work) (hand-refused w r (refusal (handCall w r .answer) e))) (handCall-leads All w r .long (H .long)))
+handed-holds o s w H (running budget) =
+    subst (λ (v : Work). Holds o (wordsBack s (runCall v budget .answer) (runCall v budget .work)) (runCall w budget .work)) (sym (H .is))
+    (back-holds o s w H (runCall w budget .answer) (runCall w budget .work)
+    (λ e. ap (λ (c : Ran). c .work) (run-refused w budget (refusal (runCall w budget .answer) e))) (runCall-leads All w budget .long (H .long)))
+handed-holds o s w H (checking list) = H
+handed-holds o s w H (reporting buffer) = H
+
+all-hold : (o s : List ℕ) (w : Work) → Holds o s w → (cs : List Call) → Holds o (wordsAll s cs) (afterAll w cs)
+unfolding wordsAll afterAll
+all-hold o s w H [] = H
+all-hold o s w H (c ∷ cs) = all-hold o (wordsHanded s c) (handed w c) (handed-holds o s w H c) cs
+
+read-long : (len limit : ℕ) (g : Got Page) → length (rowsOf (opened len limit g .work)) ≡ 64
+unfolding opened
+read-long len limit (fault c s) = length-replicate {A = ℕ} 64 0
+read-long len limit (got p s) = length-tableOf (p .stations) (given p)
+
+opened-long : (sheet : List ℕ) (limit : ℕ) → length (rowsOf (openCall sheet limit .work)) ≡ 64
+unfolding openCall
+opened-long sheet limit =
+    cond-elim (λ (o : Opened). length (rowsOf (o .work)) ≡ 64) (outside 1 64 limit) (refused BadLimit 0) (opened (length sheet) limit (readPage sheet)) (λ _. length-replicate {A = ℕ} 64 0) (λ _. read-long (length sheet) limit (readPage sheet))
+
+pub chained : (s sheet : List ℕ) (limit : ℕ) → stateWords ≤ length s → (cs : List Call) → Chained s sheet limit cs
+unfolding openedWords
+chained s sheet limit h cs =
+    let w = openCall sheet limit .work in
+    let begun : Holds s (openedWords s sheet limit) w =
+    subst (λ (x : List ℕ). Holds s x w) (sym (on-state s s (storedIn s w) h)) (stored-holds s s w refl (opened-long sheet limit)) in
+    let H = all-hold s (openedWords s sheet limit) w begun cs in
+    record { state = H .is; rest = H .rest }

@@ -1,0 +1,85 @@
+-- `level::ends_of` meets its contract. The invariant: the ends of the pairs of the stations passed. The measure is how many stations are left.
+-- Assumes nothing.
+use native.Mathlib.Omega.{arith}
+use borrow.Author.Needs.{needs}
+use mathlib.Core.Path.{_≡_}
+use mathlib.Core.Bool.{true}
+use Prim.Native.Nat.{_<_}
+use lib.Count.{ones, trailingZeros}
+use Rattle.bitset.specs.Sets.{has}
+use Rattle.bitset.proofs.LeastLaws.{trailing-least, ones-clear}
+use Rattle.separator.specs.Level.{marked}
+use Rattle.separator.proofs.MarkingLaws.{marked-pair}
+use Rattle.separator.proofs.EndsLaws.{heads-is, Walked, walk-start, walk-turn, walk-end}
+use Rattle.separator.proofs.level.ends_of.Statement.{statement}
+use Rattle.separator.proofs.level.ends_of.Tie as tie
+
+abbrev Inv-loop : tie.InvT-loop
+Inv-loop rows s parts m last rest₀ tails₀ heads₀ rest tails heads = Walked (λ i j. marked 64 rows s parts i j m) s rest tails heads
+
+abbrev μ-loop : tie.MeasureT-loop
+μ-loop rows s parts m last rest₀ tails₀ heads₀ rest tails heads = ones rest
+
+-- the least station of the rest
+low : (c : tie.In-loop Inv-loop μ-loop) → trailingZeros 64 (c .before .loop .rest) < 64
+low c = trailing-least 64 (c .before .loop .rest) (omega arith) (c .before .loop .inv .rest-fits) .below
+
+member : (c : tie.In-loop Inv-loop μ-loop) → has (c .before .before .before .args .s) (trailingZeros 64 (c .before .loop .rest)) ≡ true
+member c =
+    let l = c .before .loop in
+    l .inv .within (trailingZeros 64 (l .rest)) (trailing-least 64 (l .rest) (omega arith) (l .inv .rest-fits) .member)
+
+last-stations-requires : tie.Need-last-stations-requires Inv-loop μ-loop
+last-stations-requires c κs = search needs
+
+loop-holds : tie.Need-loop-holds Inv-loop μ-loop
+loop-holds c = walk-start _ (c .before .args .s) (c .before .fits .s .fits)
+
+cast-i : tie.Need-cast-i Inv-loop μ-loop
+cast-i c = omega (arith, low c)
+
+reached-requires : tie.Need-reached-requires Inv-loop μ-loop
+reached-requires c κs = (low c, c .before .before .before .pre, c .before .before .last-stations .ensures)
+
+shl-more : tie.Need-shl-more Inv-loop μ-loop
+shl-more c = omega (arith, low (c .before))
+
+insert-if-requires : tie.Need-insert-if-requires Inv-loop μ-loop
+insert-if-requires c κs = low (c .before)
+
+sub-rest : tie.Need-sub-rest Inv-loop μ-loop
+sub-rest c = omega arith
+
+loop-less : tie.Need-loop-less Inv-loop μ-loop
+loop-less c = let l = c .before .before .before .loop in omega (arith, ones-clear 64 (l .rest) (omega arith) (l .inv .rest-fits))
+
+loop-again : tie.Need-loop-again Inv-loop μ-loop
+loop-again c =
+    let turn = c .before .before in
+    let l = turn .before .loop in
+    let a = turn .before .before .before .args in
+    walk-turn _ _ _ (c .insert-if .result) (l .inv) (omega arith)
+    (heads-is (a .rows .now) (a .s) (a .parts .now) (trailingZeros 64 (l .rest)) (a .m) (c .before .reached .result) (low turn) (member turn) (c .before .reached .ensures))
+    (c .insert-if .ensures)
+
+returns : tie.Need-returns Inv-loop μ-loop
+returns c =
+    let a = c .before .before .before .args in
+    walk-end _ (a .s) (λ i j e. marked-pair 64 (a .rows .now) (a .s) (a .parts .now) i j (a .m) e .0) (c .before .loop .inv) (omega arith)
+
+pub ends-of-spec : {M : Type 1} → statement M
+ends-of-spec =
+    tie.close
+    (tie.spec
+    Inv-loop
+    μ-loop
+    last-stations-requires
+    loop-holds
+    cast-i
+    reached-requires
+    shl-more
+    insert-if-requires
+    sub-rest
+    loop-less
+    loop-again
+    returns)

@@ -1,0 +1,52 @@
+-- `level::reached` meets its contract. Assumes nothing.
+use borrow.Author.Needs.{needs}
+use mathlib.Core.Path.{_∙_}
+use native.Mathlib.Omega.{arith}
+use Rattle.separator.proofs.EndsLaws.{last-entered, reached-bare, reached-joined}
+use Rattle.separator.proofs.level.reached.Statement.{statement}
+use Rattle.separator.proofs.level.reached.Tie as tie
+
+mul-result : tie.Need-mul-result
+mul-result c = search needs
+
+element-copy-out-result : tie.Need-element-copy-out-result
+element-copy-out-result c = search needs
+
+returns : tie.Need-returns
+returns c =
+    let s = c .before .before in
+    let a = s .args in
+    reached-bare (a .rows .now) (a .s) (a .parts .now) (a .i) (a .m) (c .before .if1 .taken) (s .fits .s .fits)
+
+sub-joined : tie.Need-sub-joined
+sub-joined c = search needs
+
+mul-joined : tie.Need-mul-joined
+mul-joined c = search needs
+
+element-copy-out-joined : tie.Need-element-copy-out-joined
+element-copy-out-joined c = search needs
+
+joined-requires : tie.Need-joined-requires
+joined-requires c κs =
+    let s = c .before .before in
+    let a = s .args in
+    (s .pre .0, s .pre .2 ∙ last-entered (a .rows .now) (a .s) (a .parts .now) (a .m) (omega arith))
+
+returns-2 : tie.Need-returns-2
+returns-2 c =
+    let a = c .before .before .before .args in
+    reached-joined (a .rows .now) (a .s) (a .parts .now) (a .i) (a .m) (c .joined .result) (omega arith) (c .joined .ensures)
+
+pub reached-spec : {M : Type 1} → statement M
+reached-spec =
+    tie.close
+    (tie.spec
+    mul-result
+    element-copy-out-result
+    returns
+    sub-joined
+    mul-joined
+    element-copy-out-joined
+    joined-requires
+    returns-2)

@@ -1,0 +1,17 @@
+-- What finding levels and components promises: sets of the n stations of a table t, in arrays of 64 words.
+use mathlib.Core.Path.{_≡_}
+use mathlib.Core.List.{List}
+use Prim.Native.Nat.{ℕ, _≤_}
+use lib.ListN.{length}
+use Rattle.bitset.specs.Upto.{upto, row}
+use Rattle.circuit.specs.Legs.{neighbours, tableOf}
+
+-- the words of nbr are the neighbours of each station
+pub record Linked (n : ℕ) (t nbr : List ℕ) : Type 0 where
+  pub most : n ≤ 64
+  pub table : nbr ≡ tableOf n (neighbours t)
+
+-- the first `count` words are the sets of the list, and the others are 0
+pub record Listed (ls words : List ℕ) (count : ℕ) : Type 0 where
+  pub many : count ≡ length ls
+  pub array : words ≡ upto 64 (row ls)

@@ -1,0 +1,163 @@
+//! The text of `docs/BENCHMARKS.md`.
+
+use std::fs;
+
+use reference::fast;
+
+use crate::shapes::{Input, Inputs};
+use crate::times::{Results, Row, Times};
+use crate::{REPETITIONS, SIZES, TABLES};
+
+const HEAD: &str = "\
+# Benchmarks
+
+The proved library beside `reference/src/fast`, a hand-optimized Rust version over 64-bit words, in one process and on the same tables. All numbers are those of one call of
+
+```
+rt staticlib loungeegret
+cargo run --release --offline --features library --bin bench --manifest-path reference/Cargo.toml > docs/BENCHMARKS.md
+```
+";
+
+const NOTES: &str = "\
+- Both get the state in 69 lent words; the Rust version loads it from there and stores it back, and that is part of its time.
+- The limit is 64. A run goes on until it is stable: only tables with this end are taken. The sheets that are opened have next sets, previous sets and fixed fields.
+- Before each repetition the words are copied in afresh, outside the time taken. Within it the caller clears no buffer; what a call clears of its own working space is part of its time, on both sides.
+- A band has its stations in a line, with legs one or two places on and one place back, and the round that goes up by the odd places and down by the even ones. A run strikes few of its legs in each of many cycles. A plain ring has one round and no other leg. The stations of both are numbered at random.";
+
+pub fn print(shapes: &[Inputs], results: &[Results]) {
+    println!("{HEAD}");
+    println!("on {}.\n", machine());
+    println!("- A time is the median of {REPETITIONS} repetitions, and the mean over {TABLES} tables; for a pass also over all seeds.");
+    println!("{NOTES}");
+    print_summary(results);
+    for call in results {
+        print_times(call);
+    }
+    print_runs(shapes);
+    println!("\n## Highest ratios\n");
+    println!(
+        "- to the Rust version with lent words: {}",
+        highest(results, Times::ratio)
+    );
+    println!(
+        "- to the Rust version without: {}",
+        highest(results, |times| times.proved / times.direct)
+    );
+}
+
+/// The processor's name and the number of its cores.
+fn machine() -> String {
+    let told = fs::read_to_string("/proc/cpuinfo").unwrap_or_default();
+    let mut names = told.lines().filter(|line| line.starts_with("model name"));
+    let name = names.next().and_then(|line| line.split(": ").nth(1));
+    let cores = std::thread::available_parallelism().map_or(1, usize::from);
+    format!("{}, {cores} cores", name.unwrap_or("an unknown processor"))
+}
+
+fn largest(row: &Row) -> &Times {
+    &row.by_size[SIZES.len() - 1]
+}
+
+fn print_summary(results: &[Results]) {
+    let heads: Vec<String> = results.iter().map(|r| r.call.name().into()).collect();
+    println!("\n## 64 stations\n");
+    println!("Time per call of the proved library, and in brackets its ratio to that of the Rust version. The last row has the least and the most that a single table takes.\n");
+    print_head("tables", &heads);
+    for (at, row) in results[0].rows.iter().enumerate() {
+        let cell = |call: &Results| {
+            let times = largest(&call.rows[at]);
+            format!("{} ({:.2})", unit(times.proved), times.ratio())
+        };
+        print_row(row.shape, &results.iter().map(cell).collect::<Vec<_>>());
+    }
+    print_row("range", &results.iter().map(range_cell).collect::<Vec<_>>());
+}
+
+fn range_cell(call: &Results) -> String {
+    let all = || call.rows.iter().map(largest);
+    let least = all().map(|times| times.least).fold(f64::INFINITY, f64::min);
+    let most = all().map(|times| times.most).fold(0.0, f64::max);
+    format!("{} to {}", unit(least), unit(most))
+}
+
+fn print_times(call: &Results) {
+    let mut heads: Vec<String> = SIZES.map(|n| format!("{n} stations")).into();
+    heads.push("growth 16 to 64".into());
+    println!("\n## {}\n", capital(call.call.name()));
+    println!("Time per call of the proved library / of the Rust version = ratio.\n");
+    print_head("tables", &heads);
+    for row in &call.rows {
+        let cell = |times: &Times| {
+            let (proved, lent) = (unit(times.proved), unit(times.lent));
+            format!("{proved} / {lent} = {:.2}", times.ratio())
+        };
+        let mut cells: Vec<String> = row.by_size.iter().map(cell).collect();
+        let [_, from, _, to] = &row.by_size;
+        let growth = [to.proved / from.proved, to.lent / from.lent];
+        cells.push(format!("{:.1} / {:.1}", growth[0], growth[1]));
+        print_row(row.shape, &cells);
+    }
+}
+
+/// What the timed runs do: steps and removed legs.
+fn print_runs(shapes: &[Inputs]) {
+    let heads = SIZES.map(|n| format!("{n} stations"));
+    println!("\n## Steps of a whole run, and legs that it removes of all\n");
+    print_head("tables", &heads);
+    for shape in shapes {
+        let cells = shape.by_size.each_ref().map(|inputs| run_cell(inputs));
+        print_row(shape.name, &cells);
+    }
+}
+
+fn run_cell(inputs: &[Input]) -> String {
+    let (mut steps, mut removed, mut legs) = (0, 0, 0);
+    for input in inputs {
+        let ran = fast::run(input.state, u32::MAX);
+        steps += u64::from(ran.steps);
+        removed += ran.removed;
+        legs += input.state.legs();
+    }
+    let mean = |sum: u64| (sum as f64 / inputs.len() as f64).round();
+    format!("{} steps, {} of {}", mean(steps), mean(removed), mean(legs))
+}
+
+/// The highest ratio and where it was found.
+fn highest(results: &[Results], ratio: fn(&Times) -> f64) -> String {
+    let mut found = (0.0, String::new());
+    for call in results {
+        for row in &call.rows {
+            for (times, n) in row.by_size.iter().zip(SIZES) {
+                if ratio(times) > found.0 {
+                    let place = format!("{}, {}, {n} stations", call.call.name(), row.shape);
+                    found = (ratio(times), place);
+                }
+            }
+        }
+    }
+    format!("{:.2} ({})", found.0, found.1)
+}
+
+fn print_head(first: &str, heads: &[String]) {
+    print_row(first, heads);
+    println!("|---|{}", "---|".repeat(heads.len()));
+}
+
+fn print_row(name: &str, cells: &[String]) {
+    println!("| {name} | {} |", cells.join(" | "));
+}
+
+fn capital(name: &str) -> String {
+    name[..1].to_uppercase() + &name[1..]
+}
+
+fn unit(nanoseconds: f64) -> String {
+    if nanoseconds < 1e3 {
+        format!("{nanoseconds:.0} ns")
+    } else if nanoseconds < 1e6 {
+        format!("{:.2} µs", nanoseconds / 1e3)
+    } else {
+        format!("{:.2} ms", nanoseconds / 1e6)
+    }
+}

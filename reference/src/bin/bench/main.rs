@@ -1,0 +1,18 @@
+//! Times the proved library beside the fast calls, in one process and on the
+//! same tables, and prints `docs/BENCHMARKS.md`.
+
+mod document;
+mod shapes;
+mod sides;
+mod times;
+
+const SIZES: [usize; 4] = [8, 16, 32, 64];
+const TABLES: usize = 6;
+const REPETITIONS: usize = 15;
+const LIMIT: usize = 64;
+
+fn main() {
+    let shapes = shapes::ALL.map(shapes::Shape::inputs);
+    let results = times::Timed::ALL.map(|call| times::Results::of(call, &shapes));
+    document::print(&shapes, &results);
+}
