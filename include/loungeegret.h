@@ -58,10 +58,14 @@ enum loungeegret_end {
     LOUNGEEGRET_NONE = 2
 };
 
-/* The length of the longest sheet, and of the longest station lines: those of all legs of 64 stations. */
+/*
+ * The length of the longest sheet (proved: sheet-most), of the longest station lines, those of all legs of 64 stations
+ * (longest-text), and a length that suffices for everything that the program prints (program-most).
+ */
 enum {
     LOUNGEEGRET_SHEET_MOST = 1153,
-    LOUNGEEGRET_TEXT_MOST = 11776
+    LOUNGEEGRET_TEXT_MOST = 11776,
+    LOUNGEEGRET_PRINT_MOST = 11835
 };
 
 /*
@@ -105,6 +109,15 @@ uint32_t loungeegret_check_list(const uint64_t *state, size_t state_length,
  */
 uint32_t loungeegret_report(const uint64_t *state, size_t state_length,
                             uint8_t *buf, size_t buf_length, size_t *length);
+
+/*
+ * The whole program in one call: opens the sheet with limit 64, runs with budget 300000, and writes what the program prints to the
+ * start of the buffer: two lines and, unless the end is none, the station lines; or the line `refused 3 at 1`. Bytes after the
+ * text keep their contents. `*length` is its length. Answers LOUNGEEGRET_TAKEN also for a refused sheet, whose text says so, and
+ * LOUNGEEGRET_NO_ROOM, with length 0 and nothing written to the buffer, where the buffer is shorter than the text.
+ */
+uint32_t loungeegret_print(const uint8_t *sheet, size_t sheet_length,
+                           uint8_t *buf, size_t buf_length, size_t *length);
 
 #ifdef __cplusplus
 }

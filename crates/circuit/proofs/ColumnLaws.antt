@@ -4,20 +4,18 @@ use mathlib.Core.Logic.{⊎-elim}
 use mathlib.Core.Bool.{Bool, true, false, not, cond, _&&_, and-true, and-false}
 use mathlib.Core.List.{List}
 use Prim.Native.Nat.{ℕ, _+_, _-_, _^_, _≤_, _<_}
-use native.Mathlib.Nat.{lt-of-lt-of-le}
 use lib.Bits.{bitAnd, bitOr}
 use lib.Count.{trailingZeros}
 use lib.Dec.{eqb, ltb}
-use lib.Pow.{pow-mono}
 use lib.ListN.{length, getD, set, replicate, length-replicate, getD-replicate}
 use lib.Seq.{getD-set-same, getD-set-other}
 use borrow.Author.Tests.{eqb-true, eqb-false, lt-ltb, le-ltb}
 use Rattle.bitset.specs.Sets.{has, setOf}
 use Rattle.bitset.specs.Upto.{upto, row}
 use Rattle.bitset.proofs.BoolLaws.{cases, cond-true, cond-false}
-use Rattle.bitset.proofs.HasLaws.{has-zero, has-above, ext}
+use Rattle.bitset.proofs.HasLaws.{has-zero, has-above}
 use Rattle.bitset.proofs.QuantLaws.{below?}
-use Rattle.bitset.proofs.SetLaws.{has-setOf, setOf-lt, setOf-above, setOf-ext, setOf-none}
+use Rattle.bitset.proofs.SetLaws.{has-setOf, setOf-ext, setOf-none}
 use Rattle.bitset.proofs.LeastLaws.{trailing-least, has-clear}
 use Rattle.bitset.proofs.MachineLaws.{setOf-take, setOf-skip}
 use Rattle.bitset.proofs.UptoLaws.{getD-upto, upto-cong, upto-of}
@@ -76,25 +74,6 @@ columns-turn t cols i e =
     upto-cong 64 (added i (row t i) cols) (col (i + 1) t) (λ j l. added-col t cols i j (ap (λ (c : List ℕ). getD c j 0) e ∙ getD-upto 64 (col i t) 0 j l))
 
 -- ---- gaps
-
--- what the full set of n has and w has not
-pub gap-is : (n w all r : ℕ) → n ≤ 64 → all ≡ setOf 64 (λ j. ltb j n) → r ≡ setOf 64 (λ j. has all j && not (has w j)) → r ≡ setOf n (λ j. not (has w j))
-gap-is n w all r le ea er = er ∙ ext 64 (setOf 64 both) (setOf n lacks) (setOf-lt 64 both) (lt-of-lt-of-le (setOf-lt n lacks) (pow-mono le)) (λ k l. has-setOf 64 both k l ∙ ⊎-elim (inside k l) (beyond k l) (below? k n))
-  where
-    both : ℕ → Bool
-    both j = has all j && not (has w j)
-
-    lacks : ℕ → Bool
-    lacks j = not (has w j)
-
-    full-at : (k : ℕ) → k < 64 → has all k ≡ ltb k n
-    full-at k l = ap (λ (x : ℕ). has x k) ea ∙ has-setOf 64 (λ j. ltb j n) k l
-
-    inside : (k : ℕ) → k < 64 → k < n → both k ≡ has (setOf n lacks) k
-    inside k l m = ap (λ (b : Bool). b && not (has w k)) (full-at k l ∙ lt-ltb k n m) ∙ sym (has-setOf n lacks k m)
-
-    beyond : (k : ℕ) → k < 64 → n ≤ k → both k ≡ has (setOf n lacks) k
-    beyond k l g = ap (λ (b : Bool). b && not (has w k)) (full-at k l ∙ le-ltb k n g) ∙ sym (setOf-above n lacks k g)
 
 -- row i of the gaps
 pub gapRow : ℕ → List ℕ → ℕ → ℕ

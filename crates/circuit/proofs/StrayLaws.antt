@@ -2,9 +2,8 @@
 use mathlib.Core.Path.{_≡_, refl, sym, ap, _∙_}
 use mathlib.Core.Logic.{_≢_, ⊎-elim}
 use mathlib.Core.Bool.{true, false, not, _||_}
-use Prim.Native.Nat.{ℕ, zero, suc, _-_, _/_, _^_, _≤_, _<_}
+use Prim.Native.Nat.{ℕ, _-_, _^_, _≤_, _<_}
 use native.Mathlib.Nat.{lt-of-lt-of-le, not-le-of-lt}
-use native.Mathlib.Omega.{arith}
 use lib.Bits.{bitAnd}
 use lib.Dec.{eqb, leb, ltb}
 use lib.Pow.{pow-pos, pow-mono}
@@ -12,17 +11,11 @@ use borrow.Author.Tests.{lt-ltb, le-ltb, lt-leb, leb-false, eqb-true, eqb-false,
 use Rattle.bitset.specs.Sets.{has, setOf}
 use Rattle.bitset.proofs.BoolLaws.{cases, not-both, is-false, or-none, or-false-l, or-false-r, cond-elim, cond-true, cond-false}
 use Rattle.bitset.proofs.QuantLaws.{below?}
-use Rattle.bitset.proofs.HasLaws.{has-zero, has-above, has-half}
-use Rattle.bitset.proofs.SetLaws.{setOf-lt, has-setOf, setOf-elim, no-member}
+use Rattle.bitset.proofs.HasLaws.{has-zero, has-above}
+use Rattle.bitset.proofs.SetLaws.{setOf-lt, has-setOf, setOf-elim, no-member, members-below}
 use Rattle.bitset.proofs.MachineLaws.{within-of-diff, diff-of-within}
 use Rattle.circuit.specs.inner.Tables.{fullRow}
 use Rattle.circuit.specs.State.{strayRow}
-
--- a word with members below n only is below 2 ^ n
-pub members-below : (n w : ℕ) → ((j : ℕ) → has w j ≡ true → j < n) → w < 2 ^ n
-members-below zero w f = let z : w ≡ 0 = no-member w (λ k. is-false (has w k) (λ e. absurd (omega (arith, f k e)))) in omega arith
-members-below (suc n) w f =
-    omega (arith, members-below n (w / 2) (λ j e. let l = f (suc j) (has-half w j ∙ e) in omega arith))
 
 -- j may follow i in the full table of n
 abbrev pub Allowed : ℕ → ℕ → ℕ → Type 0

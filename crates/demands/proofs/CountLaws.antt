@@ -1,13 +1,11 @@
 -- Removals and steps of the calls. Assumes nothing.
 use mathlib.Core.Path.{_≡_, refl, sym, ap, _∙_}
-use mathlib.Core.Logic.{⊎-elim}
-use mathlib.Core.Bool.{Bool, true, false, cond}
-use mathlib.Core.List.{List}
+use mathlib.Core.Bool.{false, cond}
 use Prim.Native.Nat.{ℕ, zero, suc, _+_, _≤_}
 use native.Mathlib.Omega.{arith}
 use lib.Dec.{ltb}
 use borrow.Author.Tests.{ltb-false}
-use Rattle.bitset.proofs.BoolLaws.{clash, cases, cond-elim, cond-false}
+use Rattle.bitset.proofs.BoolLaws.{clash, cond-elim}
 use Rattle.circuit.specs.declared.card.Answer.the-variants.{Taken, BadWork, StraySeed}
 use Rattle.circuit.specs.declared.card.End.the-variants.{Open}
 use Rattle.circuit.specs.declared.state.Work.{Work}

@@ -11,7 +11,8 @@ use Rattle.circuit.proofs.CheckLaws.{list-round, round-list}
 use Rattle.sheet.specs.declared.Opened.{Opened}
 use Rattle.sheet.specs.Open.{openCall}
 use Rattle.sheet.proofs.GrammarLaws.{sheet-taken, taken-sheet, unknown-bit-refused}
-use Rattle.filter.specs.Leads.{All, Leads}
+use Rattle.circuit.specs.Round.{All}
+use Rattle.filter.specs.Leads.{Leads}
 use Rattle.filter.proofs.CallLaws.{stay, leads-on, open-none, handCall-leads, runCall-leads}
 use Rattle.filter.proofs.RunLaws.{budgets, run-bad}
 use Rattle.demands.specs.Sequence.{Call, calling, running, checking, reporting, handed, afterAll}

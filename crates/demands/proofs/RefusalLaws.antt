@@ -1,13 +1,13 @@
 -- What a refused call hands back. Assumes nothing.
-use mathlib.Core.Path.{_≡_, refl, sym, ap, _∙_}
+use mathlib.Core.Path.{_≡_, refl}
 use mathlib.Core.Logic.{⊎-elim}
-use mathlib.Core.Bool.{Bool, true, false, not, cond, _||_}
+use mathlib.Core.Bool.{true, false, not, cond}
 use mathlib.Core.List.{List}
 use Prim.Native.Nat.{ℕ}
 use lib.Dec.{eqb, ltb}
 use lib.ListN.{length}
 use Rattle.bitset.specs.Sets.{outside}
-use Rattle.bitset.proofs.BoolLaws.{cases, cond-elim, cond-true, cond-false}
+use Rattle.bitset.proofs.BoolLaws.{cases, cond-elim}
 use Rattle.circuit.specs.declared.card.Answer.the-variants.{Taken, BadLimit, BadWork, StraySeed, WrongLength}
 use Rattle.circuit.specs.declared.list.Checked.{Checked}
 use Rattle.circuit.specs.declared.state.Work.{Work}

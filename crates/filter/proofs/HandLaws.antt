@@ -16,6 +16,7 @@ use Rattle.circuit.specs.declared.card.Answer.the-variants.{Taken, BadWork, Str
 use Rattle.bitset.specs.Upto.{row}
 use Rattle.circuit.specs.Legs.{legs, Subtable}
 use Rattle.circuit.specs.State.{isNone, rowsOf, stray, bad, Good}
+use Rattle.circuit.specs.Round.{All}
 use Rattle.circuit.specs.Verdict.{Sound}
 use Rattle.circuit.proofs.LegsLaws.{legs-le}
 use Rattle.circuit.proofs.StateLaws.{legs-ones}
@@ -25,7 +26,7 @@ use Rattle.filter.specs.Calls.{gone, halted, unchanged, reopened, byHand
 use Rattle.filter.specs.inner.Steps.{Narrows}
 
 -- a sound verdict leaves no stray leg and no leg that was missing
-pub narrows : (w : Work) (v : Verdict) → Good w → Sound (w .n) (rowsOf w) v → Narrows w v
+pub narrows : (w : Work) (v : Verdict) → Good w → Sound All (w .n) (rowsOf w) v → Narrows w v
 narrows w v g s = record { clean = s .clean (g .table); sub = s .sub }
 
 -- legs before less legs after, from the counts of ones

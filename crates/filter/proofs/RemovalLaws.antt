@@ -15,7 +15,7 @@ use Rattle.circuit.proofs.LegsLaws.{legs-le}
 use Rattle.filter.specs.declared.cycle.Ran.{Ran}
 use Rattle.filter.specs.Rule.{ruleAt}
 use Rattle.filter.specs.Calls.{verdict, gone, halted, advanced, cycled, after, step, idle, onward, runFrom}
-use Rattle.filter.specs.Leads.{All}
+use Rattle.circuit.specs.Round.{All}
 use Rattle.filter.proofs.CallLaws.{place-sound, step-leads}
 
 pub left-le : (w : Work) (v : Verdict) → Subtable (v .left) (rowsOf w) → gone w v + legs (w .n) (v .left) ≡ legs (w .n) (rowsOf w)

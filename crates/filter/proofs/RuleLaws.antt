@@ -4,6 +4,7 @@ use mathlib.Core.Bool.{false}
 use mathlib.Core.List.{List}
 use Prim.Native.Nat.{ℕ, zero, suc, pred, _≤_, _<_}
 use native.Mathlib.Omega.{arith}
+use Rattle.circuit.specs.Round.{All}
 use Rattle.circuit.specs.Verdict.{Sound}
 use Rattle.circuit.specs.State.{lastPlace}
 use Rattle.circuit.proofs.StateLaws.{inside, not-outside}
@@ -17,7 +18,7 @@ use Rattle.filter.proofs.PassLaws.{pass-sound}
 pub seed-in : (n seed : ℕ) → (1 ≤ seed) × (seed ≤ n) → pred seed < n
 seed-in n seed h = omega (arith, h .0, h .1)
 
-pub says-sound : (r : Rule) (n : ℕ) (t : List ℕ) (limit : ℕ) → n ≤ 64 → straySeed n r ≡ false → Sound n t (says r n t limit)
+pub says-sound : (r : Rule) (n : ℕ) (t : List ℕ) (limit : ℕ) → n ≤ 64 → straySeed n r ≡ false → Sound All n t (says r n t limit)
 unfolding says
 says-sound Sweep n t limit le f = sweep-sound n t le
 says-sound (Pass seed) n t limit le f = pass-sound n t limit (pred seed) (seed-in n seed (inside 1 n seed f)) le

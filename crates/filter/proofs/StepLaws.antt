@@ -16,7 +16,7 @@ use Rattle.circuit.specs.declared.card.End.the-variants.{Open, Stable}
 use Rattle.circuit.specs.Legs.{legs}
 use Rattle.circuit.specs.State.{isOpen, rowsOf, moved, lastPlace, Good}
 use Rattle.filter.specs.Rule.{ruleAt}
-use Rattle.filter.specs.Leads.{All}
+use Rattle.circuit.specs.Round.{All}
 use Rattle.filter.specs.Calls.{verdict, gone, halted, advanced, cycled, after, step, runFrom}
 use Rattle.filter.proofs.CallLaws.{step-leads}
 use Rattle.filter.proofs.RemovalLaws.{run-removed}

@@ -12,16 +12,13 @@ use Rattle.bitset.specs.Sets.{size}
 use Rattle.bitset.proofs.BoolLaws.{cases, cond-true, cond-false}
 use Rattle.bitset.proofs.OnesLaws.{size-ones}
 use Rattle.circuit.specs.declared.verdict.Verdict.{Verdict}
-use Rattle.circuit.specs.State.{stray}
 use Rattle.circuit.specs.Verdict.{leaves}
 use Rattle.separator.specs.Levels.{inner}
 use Rattle.separator.specs.Level.{level}
-use Rattle.separator.specs.inner.Strike.{LevelOf}
-use Rattle.separator.proofs.ExactLaws.{level-clean}
 use Rattle.separator.proofs.InnerLaws.{innerFrom, inner-start, inner-step, inner-end}
 use Rattle.filter.specs.Pass.{passOver}
-use Rattle.circuit.specs.inner.Tables.{Columned}
-use Rattle.filter.specs.inner.Steps.{limited, TableTaken}
+use Rattle.circuit.specs.inner.Tables.{Columned, TableTaken}
+use Rattle.filter.specs.inner.Steps.{limited}
 
 -- what was taken of a verdict was taken of an equal one
 pub taken-as : {n : ℕ} {u v : Verdict} {none : Bool} {rows cols : List ℕ} → u ≡ v → TableTaken n u none rows cols → TableTaken n v none rows cols
@@ -33,12 +30,8 @@ module _ (n limit s : ℕ) (t cols : List ℕ) (fits : s < 2 ^ n) (C : Columned 
   pub level-skipped : limit < ones s → TableTaken n (limited n limit s t) false t cols
   level-skipped l = record { verdict = cond-false (level n t s) (leaves t) (ap (λ (k : ℕ). leb k limit) (size-ones n s fits) ∙ lt-leb (ones s) limit l); table = C }
 
-  pub level-taken : n ≤ 64 → ones s ≤ limit → (none : Bool) (rows after : List ℕ) → LevelOf n s t none rows after → TableTaken n (limited n limit s t) none rows after
-  level-taken most l none rows after L =
-      record {
-        verdict = cond-true (level n t s) (leaves t) (ap (λ (k : ℕ). leb k limit) (size-ones n s fits) ∙ le-leb (ones s) limit l) ∙ L .verdict;
-        table = record { clean = ap (λ (v : Verdict). stray n (v .left)) (sym (L .verdict)) ∙ level-clean n t s most (C .clean); len = L .len; columns = L .columns };
-      }
+  pub level-taken : ones s ≤ limit → {none : Bool} {rows after : List ℕ} → TableTaken n (level n t s) none rows after → TableTaken n (limited n limit s t) none rows after
+  level-taken l = taken-as (sym (cond-true (level n t s) (leaves t) (ap (λ (k : ℕ). leb k limit) (size-ones n s fits) ∙ le-leb (ones s) limit l)))
 
 -- ---- the levels one after the other
 

@@ -10,10 +10,6 @@ use Rattle.circuit.specs.Round.{RoundOf}
 use Rattle.circuit.specs.State.{rowsOf, Good}
 use Rattle.filter.specs.Calls.{runCall}
 
--- all rounds
-abbrev pub All : (ℕ → ℕ) → Type 0
-All h = Unit {0}
-
 -- of a call that was given v and handed back w, and a class P of rounds: the rules of the paper keep all rounds, so each class
 pub record Leads (P : (ℕ → ℕ) → Type 0) (v w : Work) : Type 0 where
   -- n and the limit stay

@@ -3,10 +3,10 @@ ghost use denote.Ref.{now};
 ghost use mathlib.Core.Path.{_≡_};
 ghost use Prim.Native.Nat.{_^_, _<_, _≤_};
 ghost use lib.ListN.{length, take};
-ghost use Rattle.circuit.specs.inner.Tables.{Columned};
+ghost use Rattle.circuit.specs.inner.Tables.{Columned, TableTaken};
 ghost use Rattle.separator.specs.Levels.{inner};
 ghost use Rattle.filter.specs.Pass.{passOver, pass};
-ghost use Rattle.filter.specs.inner.Steps.{TableTaken, limited, LevelsBelow};
+ghost use Rattle.filter.specs.inner.Steps.{limited, LevelsBelow};
 
 // The rule of the level s, skipped where it has more stations than the limit. Answers whether the verdict is none.
 fn take_level(rows: &mut [u64; 64], cols: &mut [u64; 64], n: usize, limit: usize, s: u64) -> bool

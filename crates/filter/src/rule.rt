@@ -4,9 +4,8 @@ use crate::sweeping::sweep_on;
 ghost use mathlib.Core.Bool.{false};
 ghost use mathlib.Core.Path.{_≡_};
 ghost use Prim.Native.Nat.{_≤_};
-ghost use Rattle.circuit.specs.inner.Tables.{Columned};
+ghost use Rattle.circuit.specs.inner.Tables.{Columned, TableTaken};
 ghost use Rattle.filter.specs.Rule.{says, straySeed, ruleAt};
-ghost use Rattle.filter.specs.inner.Steps.{TableTaken};
 
 pub enum Rule {
     Sweep,

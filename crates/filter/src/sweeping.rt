@@ -7,10 +7,9 @@ ghost use lib.ListN.{length};
 ghost use Rattle.bitset.specs.Sets.{has};
 ghost use Rattle.circuit.specs.Legs.{columns};
 ghost use Rattle.circuit.specs.State.{stray};
-ghost use Rattle.circuit.specs.inner.Tables.{Columned};
+ghost use Rattle.circuit.specs.inner.Tables.{Columned, TableTaken};
 ghost use Rattle.filter.specs.Sweep.{swept, sweep};
 ghost use Rattle.filter.specs.inner.Singles.{single, SinglesOf, keeps};
-ghost use Rattle.filter.specs.inner.Steps.{TableTaken};
 
 // Of the first words of a list: some word is empty; which words have one member only; the members of these; the members of two of these.
 struct Singles {

@@ -2,7 +2,7 @@
 use mathlib.Core.Path.{_≡_, refl, sym, ap, _∙_, subst}
 use mathlib.Core.Logic.{⊎-elim}
 use mathlib.Core.Bool.{true, false}
-use mathlib.Core.List.{List, [], _∷_, _++_}
+use mathlib.Core.List.{List, [], _∷_}
 use Prim.Native.Nat.{ℕ, _≤_}
 use native.Mathlib.Omega.{arith}
 use lib.ListN.{length, drop, length-append, length-replicate}
@@ -21,7 +21,7 @@ use Rattle.sheet.specs.Open.{Got, got, fault, readPage, refused, opened, openCa
 use Rattle.filter.specs.declared.hand.Called.{Called}
 use Rattle.filter.specs.declared.cycle.Ran.{Ran}
 use Rattle.filter.specs.Calls.{handCall, runCall}
-use Rattle.filter.specs.Leads.{All}
+use Rattle.circuit.specs.Round.{All}
 use Rattle.filter.proofs.CallLaws.{handCall-leads, runCall-leads}
 use Rattle.demands.specs.Sequence.{Call, calling, running, checking, reporting, handed, afterAll}
 use Rattle.demands.specs.Demands.{Refusal}

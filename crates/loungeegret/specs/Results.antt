@@ -14,6 +14,8 @@ use Rattle.filter.specs.declared.cycle.Ran.{Ran}
 use Rattle.circuit.specs.declared.list.Checked.{Checked}
 use Rattle.report.specs.declared.Reported.{Reported}
 use Rattle.circuit.specs.Card.{number}
+use Rattle.writer.specs.Lent.{written}
+use Rattle.output.specs.Program.{printed}
 use Rattle.loungeegret.specs.Words.{tooFew, storedIn}
 
 -- the number of a call on too few words for a state; no answer of the card has it
@@ -61,3 +63,9 @@ pub record ReportResult (c : Reported) (t s b b₁ : List ℕ) (l l₁ r : ℕ) 
   pub number : r ≡ onState s noState (number (c .answer))
   pub bytes : b₁ ≡ onState s b t
   pub len : l₁ ≡ onState s l (c .len)
+
+-- the program's text t for a sheet; no state is lent
+pub record PrintResult (t b b₁ : List ℕ) (l₁ r : ℕ) : Type 0 where
+  pub number : r ≡ number (printed t b .answer)
+  pub bytes : b₁ ≡ written t b
+  pub len : l₁ ≡ printed t b .len

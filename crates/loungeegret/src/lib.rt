@@ -15,8 +15,9 @@ ghost use Rattle.circuit.specs.Check.{checkCall};
 ghost use Rattle.sheet.specs.Open.{openCall};
 ghost use Rattle.report.specs.Lines.{reportCall, reportBytes};
 ghost use Rattle.filter.specs.Calls.{sweepCall, passCall, runCall};
+ghost use Rattle.output.specs.Program.{programText};
 ghost use Rattle.loungeegret.specs.Words.{stateWords, loaded, storedIn};
-ghost use Rattle.loungeegret.specs.Results.{wordsAfter, OpenResult, CallResult, RunResult, CheckResult, ReportResult};
+ghost use Rattle.loungeegret.specs.Results.{wordsAfter, OpenResult, CallResult, RunResult, CheckResult, ReportResult, PrintResult};
 
 // Where the words stand that follow the rows of the table, and how many words a state has.
 const N: usize = 64;
@@ -208,5 +209,16 @@ pub extern "C" fn loungeegret_report(state: &[u64], buf: &mut [u8], length: &mut
     let reported = report::report(load(state), buf);
     *length = reported.len;
     let answer = reported.answer;
+    answer.number()
+}
+
+// Writes what the program prints for the sheet to the start of the buffer, and through `length` how many bytes it is.
+#[no_mangle]
+pub extern "C" fn loungeegret_print(sheet: &[u8], buf: &mut [u8], length: &mut usize) -> u32
+    ensures { λ r. ⌜ PrintResult (programText (now (sheet .entry))) (now (buf .entry)) (now (buf .exit)) (now (length .exit)) r ⌝ }
+{
+    let printed = output::print(sheet, buf);
+    *length = printed.len;
+    let answer = printed.answer;
     answer.number()
 }

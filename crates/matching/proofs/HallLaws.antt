@@ -71,7 +71,7 @@ module _ (fits owner via : List ℕ) (n stations free reach : ℕ) (inside : Ins
     unfolding Outer next
     stands c q = own (to c) (within c (to c) (q .0) (good .fit c (q .0))) (leaves c (q .0) (q .1))
 
-    pub comes-back : (x : ℕ) → x < p → (x < n → Out reach (m .to x)) → ((c : ℕ) → c < p → (x < n → to c ≡ m .to x → ⊥)) → ⊥
+    comes-back : (x : ℕ) → x < p → (x < n → Out reach (m .to x)) → ((c : ℕ) → c < p → (x < n → to c ≡ m .to x → ⊥)) → ⊥
     unfolding Outer
     comes-back x l o miss =
         no-miss Outer p next (λ c q. q .0)

@@ -1,5 +1,4 @@
 -- Laws on plain numbers and functions, which the functions' proofs cite.
-pub mod WordLaws
 pub mod PutLaws
 pub mod PathLaws
 pub mod SearchLaws

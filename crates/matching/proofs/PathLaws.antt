@@ -12,7 +12,7 @@ use Rattle.bitset.proofs.BoolLaws.{not-both, is-false}
 use Rattle.bitset.specs.Upto.{row}
 use Rattle.matching.specs.Matching.{In, Out, Assigns}
 use Rattle.matching.specs.inner.Paths.{Matched, Step, Forest}
-use Rattle.matching.proofs.WordLaws.{Without}
+use Rattle.bitset.proofs.WordLaws.{Without}
 use Rattle.matching.proofs.PutLaws.{Put, put, put-is, put-same, put-other}
 
 -- `to` gives every component below m a station but c
@@ -75,7 +75,7 @@ module _ (fits : List ℕ) (n stations free reach : ℕ) (via : ℕ → ℕ) (in
       pub path-step : Step fits reach who via (p .rank) s
       path-step = ⊎-elim (λ (f : In free s). absurd (not-both f o)) (λ r. r) (p .step s (p .within) (le-refl (p .rank s)))
 
-      pub path-owned : (who s < n + 1) × (who s ≡ c → ⊥) × (p .to (who s) ≡ s)
+      path-owned : (who s < n + 1) × (who s ≡ c → ⊥) × (p .to (who s) ≡ s)
       path-owned = p .owned s (inside s (p .within)) o
 
     module _ (owner : List ℕ) (is : Put who s c (row owner)) where

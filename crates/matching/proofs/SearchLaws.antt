@@ -11,7 +11,7 @@ use Rattle.bitset.proofs.BoolLaws.{not-both, is-false}
 use Rattle.bitset.specs.Upto.{row}
 use Rattle.matching.specs.Matching.{In, Out}
 use Rattle.matching.specs.inner.Paths.{Step, Forest, Blocked}
-use Rattle.matching.proofs.WordLaws.{With, Without}
+use Rattle.bitset.proofs.WordLaws.{With, Without}
 use Rattle.matching.proofs.PutLaws.{Put, put, put-is, put-same, put-other}
 
 -- `rest` has the stations that are neither in `reach` nor known to be blocked

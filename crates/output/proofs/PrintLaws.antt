@@ -21,12 +21,12 @@ use Rattle.circuit.specs.Card.{number, card, word}
 use Rattle.circuit.specs.State.{isNone, rowsOf, Good}
 use Rattle.circuit.proofs.CardLaws.{number-one}
 use Rattle.circuit.proofs.StateLaws.{legs-ones}
+use Rattle.circuit.specs.Round.{All}
 use Rattle.sheet.specs.declared.Opened.{Opened}
 use Rattle.sheet.specs.Open.{openCall}
 use Rattle.sheet.proofs.GrammarLaws.{opened-good}
 use Rattle.filter.specs.declared.cycle.Ran.{Ran}
 use Rattle.filter.specs.Calls.{runCall}
-use Rattle.filter.specs.Leads.{All}
 use Rattle.filter.proofs.CallLaws.{runCall-leads}
 use Rattle.report.specs.Lines.{linesFrom, text}
 use Rattle.output.specs.declared.Printed.{Printed}

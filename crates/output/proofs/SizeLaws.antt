@@ -18,12 +18,12 @@ use Rattle.circuit.specs.Card.{number, word}
 use Rattle.circuit.specs.Legs.{legs}
 use Rattle.circuit.specs.State.{isNone, rowsOf, Good}
 use Rattle.circuit.proofs.LegsLaws.{legs-most}
+use Rattle.circuit.specs.Round.{All}
 use Rattle.sheet.specs.declared.Opened.{Opened}
 use Rattle.sheet.specs.Layout.{Page}
 use Rattle.sheet.specs.Open.{Got, got, fault, readPage, opened, openCall}
 use Rattle.sheet.proofs.SizeLaws.{first-bytes-suffice}
 use Rattle.filter.specs.Calls.{runCall}
-use Rattle.filter.specs.Leads.{All}
 use Rattle.filter.proofs.CallLaws.{runCall-leads}
 use Rattle.report.specs.Lines.{text}
 use Rattle.report.proofs.SizeLaws.{text-bound}

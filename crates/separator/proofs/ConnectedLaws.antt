@@ -21,7 +21,7 @@ use Rattle.separator.specs.Choice.{Walk, stay, step}
 use Rattle.separator.specs.Components.{spread, grow, componentsFrom, components}
 use Rattle.separator.specs.Connected.{Free, Chain, Member, Together, ConnectedGroups}
 use Rattle.separator.proofs.ComponentLaws.{components-closed, components-cover, components-own}
-use Rattle.separator.proofs.WidthLaws.{leads}
+use Rattle.separator.proofs.NeighbourLaws.{leads}
 use Rattle.separator.proofs.RoundChoice.{walk-start, walk-end}
 
 -- ---- walks, one after the other and back

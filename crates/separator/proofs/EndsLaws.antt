@@ -1,6 +1,6 @@
 -- The ends of the pairs on which a mark stands, as the code finds them: the heads of one station, and a walk over the stations of a level.
 -- Assumes nothing.
-use mathlib.Core.Path.{_≡_, refl, sym, ap, ap₂, _∙_, subst}
+use mathlib.Core.Path.{_≡_, refl, sym, ap, ap₂, _∙_}
 use mathlib.Core.Bool.{Bool, true, false, not, _&&_, _||_, and-comm, and-false, or-assoc, or-false}
 use mathlib.Core.List.{List}
 use Prim.Native.Nat.{ℕ, zero, suc, _-_, _*_, _%_, _^_, _<_}
@@ -8,44 +8,21 @@ use native.Mathlib.Omega.{arith}
 use lib.Dec.{eqb, ltb}
 use lib.Bits.{bitAnd, bitOr, and-le-l, and-le-r, or-lt}
 use lib.Count.{trailingZeros}
-use borrow.Author.Tests.{eq-eqb, eqb-true, ltb-true, lt-ltb}
+use borrow.Author.Tests.{eqb-true, ltb-true, lt-ltb}
 use Rattle.bitset.specs.Sets.{has, setOf, any, meet}
-use Rattle.bitset.proofs.BoolLaws.{iff, and-intro, and-l, and-r, taut3}
+use Rattle.bitset.proofs.BoolLaws.{iff, eqb-swap, and-intro, and-l, and-r, taut3}
 use Rattle.bitset.proofs.HasLaws.{has-zero, has-and, has-or}
-use Rattle.bitset.proofs.SetLaws.{has-setOf, setOf-lt, setOf-ext, eq-setOf, meet-intro}
+use Rattle.bitset.proofs.SetLaws.{has-setOf, setOf-ext, eq-setOf, word-lt, word-has}
 use Rattle.bitset.proofs.OnesLaws.{has-pos}
-use Rattle.bitset.proofs.QuantLaws.{any-intro, any-elim, any-none, any-ext}
+use Rattle.bitset.proofs.QuantLaws.{any-intro, any-elim, any-ext}
 use Rattle.bitset.proofs.LeastLaws.{trailing-least, has-clear}
 use Rattle.bitset.proofs.MemberLaws.{any-least, any-empty}
 use Rattle.bitset.proofs.MachineLaws.{shl-one, has-remove}
+use Rattle.bitset.proofs.WordLaws.{meet-some, meet-none}
 use Rattle.bitset.specs.Upto.{row}
 use Rattle.circuit.specs.Legs.{leg, col}
 use Rattle.separator.specs.Level.{joins, stands, marked}
 use Rattle.separator.specs.inner.Spares.{entered, lastOf, EndsOf}
-
-eqb-swap : (a b : ℕ) → eqb a b ≡ eqb b a
-eqb-swap a b = iff (eqb a b) (eqb b a) (λ e. eq-eqb b a (sym (eqb-true a b e))) (λ e. eq-eqb a b (sym (eqb-true b a e)))
-
--- ---- a word that is a set: its bound and its bits
-
-pub word-lt : {w : ℕ} (m : ℕ) (p : ℕ → Bool) → w ≡ setOf m p → w < 2 ^ m
-word-lt m p e = subst (λ (w : ℕ). w < 2 ^ m) (sym e) (setOf-lt m p)
-
-pub word-has : {w : ℕ} (m : ℕ) (p : ℕ → Bool) → w ≡ setOf m p → (k : ℕ) → k < m → has w k ≡ p k
-word-has m p e k l = ap (λ (w : ℕ). has w k) e ∙ has-setOf m p k l
-
--- ---- `a & w != 0`
-
-meet-some : (a w : ℕ) → w < 2 ^ 64 → 0 < bitAnd a w → meet 64 a w ≡ true
-meet-some a w h p =
-    let k = trailingZeros 64 (bitAnd a w) in
-    let r = trailing-least 64 (bitAnd a w) p (omega (arith, and-le-r a w)) in
-    let e : has a k && has w k ≡ true = sym (has-and a w k) ∙ r .member in
-    meet-intro 64 a w k (r .below) (and-l (has a k) (has w k) e) (and-r (has a k) (has w k) e)
-
-meet-none : (a w : ℕ) → bitAnd a w ≡ 0 → meet 64 a w ≡ false
-unfolding meet
-meet-none a w e = any-none 64 (λ k. has a k && has w k) (λ k l. sym (has-and a w k) ∙ ap (λ (x : ℕ). has x k) e ∙ has-zero k)
 
 -- ---- the small functions
 
@@ -63,13 +40,13 @@ module _ (t : List ℕ) (s : ℕ) where
   module _ (w i : ℕ) where
     pub joined-some : (v : ℕ) → v ≡ entered t s w → w < 2 ^ 64 → 0 < bitAnd (row t i) w → v ≡ setOf 64 (λ j. has s j && joins 64 t w i j)
     unfolding entered joins
-    joined-some v e h p = e ∙ setOf-ext 64 _ _ (λ j l. ap (λ (x : Bool). has s j && (x && meet 64 (col 64 t j) w)) (sym (meet-some (row t i) w h p)))
+    joined-some v e h p = e ∙ setOf-ext 64 _ _ (λ j l. ap (λ (x : Bool). has s j && (x && meet 64 (col 64 t j) w)) (sym (meet-some 64 (row t i) w h p)))
 
     pub joined-none : bitAnd (row t i) w ≡ 0 → 0 ≡ setOf 64 (λ j. has s j && joins 64 t w i j)
     unfolding joins
     joined-none z =
         eq-setOf 64 0 _ (omega arith) (λ j l. has-zero j ∙ sym (
-        ap (λ (x : Bool). has s j && (x && meet 64 (col 64 t j) w)) (meet-none (row t i) w z) ∙ and-false (has s j)))
+        ap (λ (x : Bool). has s j && (x && meet 64 (col 64 t j) w)) (meet-none 64 (row t i) w z) ∙ and-false (has s j)))
 
 -- the mark m, bare or of the component at place m - 1
 module _ (t : List ℕ) (s : ℕ) (cs : List ℕ) where
@@ -110,7 +87,7 @@ module _ (t : List ℕ) (s : ℕ) (cs : List ℕ) where
 
 -- ---- the walk over the stations of s, the least first: `on i j` says that the mark stands on the pair (i, j), as it does for stations i of s alone
 
-pub record Walked (on : ℕ → ℕ → Bool) (s rest tails heads : ℕ) : Type 0 where
+pub record Gathering (on : ℕ → ℕ → Bool) (s rest tails heads : ℕ) : Type 0 where
   pub rest-fits : rest < 2 ^ 64
   pub tails-fit : tails < 2 ^ 64
   pub heads-fit : heads < 2 ^ 64
@@ -119,8 +96,8 @@ pub record Walked (on : ℕ → ℕ → Bool) (s rest tails heads : ℕ) : Type 
   pub head : (k : ℕ) → k < 64 → has heads k || any 64 (λ i. has rest i && on i k) ≡ any 64 (λ i. has s i && on i k)
 
 module _ (on : ℕ → ℕ → Bool) (s : ℕ) where
-  pub walk-start : s < 2 ^ 64 → Walked on s s 0 0
-  walk-start h =
+  pub gather-start : s < 2 ^ 64 → Gathering on s s 0 0
+  gather-start h =
       record {
         rest-fits = h;
         tails-fit = omega arith;
@@ -131,11 +108,11 @@ module _ (on : ℕ → ℕ → Bool) (s : ℕ) where
       }
 
   -- a turn at the least station of the rest
-  pub walk-turn : {rest tails heads : ℕ} (more tails′ : ℕ) → Walked on s rest tails heads → 0 < rest
+  pub gather-turn : {rest tails heads : ℕ} (more tails′ : ℕ) → Gathering on s rest tails heads → 0 < rest
       → more ≡ setOf 64 (on (trailingZeros 64 rest))
       → tails′ ≡ setOf 64 (λ k. has tails k || eqb k (trailingZeros 64 rest) && ltb 0 more)
-      → Walked on s (bitAnd rest (rest - 1)) tails′ (bitOr heads more)
-  walk-turn {rest} {tails} {heads} more tails′ v p hm ht =
+      → Gathering on s (bitAnd rest (rest - 1)) tails′ (bitOr heads more)
+  gather-turn {rest} {tails} {heads} more tails′ v p hm ht =
       record {
         rest-fits = omega (arith, v .rest-fits, and-le-l rest (rest - 1));
         tails-fit = word-lt 64 tailed ht;
@@ -186,9 +163,9 @@ module _ (on : ℕ → ℕ → Bool) (s : ℕ) where
       step k false q =
           taut3 (λ a b c. (a || false) || b && true && c) (λ a b c. a || b && c) refl (has tails k) (has rest k) (any 64 (on k))
 
-  pub walk-end : {rest tails heads : ℕ} → ((i j : ℕ) → on i j ≡ true → has s i ≡ true) → Walked on s rest tails heads → rest ≡ 0
+  pub gather-end : {rest tails heads : ℕ} → ((i j : ℕ) → on i j ≡ true → has s i ≡ true) → Gathering on s rest tails heads → rest ≡ 0
       → EndsOf on tails heads
-  walk-end {rest} {tails} {heads} only v z =
+  gather-end {rest} {tails} {heads} only v z =
       record {
         tail = eq-setOf 64 tails _ (v .tails-fit) (λ k l.
             sym (or-false (has tails k)) ∙ ap (λ (x : Bool). has tails k || x && any 64 (on k)) (sym (ap (λ (w : ℕ). has w k) z ∙ has-zero k))

@@ -14,7 +14,7 @@ use Rattle.bitset.proofs.SetLaws.{setOf-lt, has-setOf, has-self}
 use Rattle.bitset.proofs.OnesLaws.{pow-within}
 use Rattle.separator.specs.Components.{spread, grow}
 use Rattle.separator.proofs.ComponentLaws.{Closed, grown-closed, grow-keeps}
-use Rattle.separator.proofs.WidthLaws.{leads}
+use Rattle.separator.proofs.NeighbourLaws.{leads}
 
 module _ (n : ℕ) (R : ℕ → ℕ → Bool) (room : ℕ) where
   leads-elim : (w j : ℕ) → leads n R w j ≡ true → (i : ℕ) × (i < n) × (has w i ≡ true) × (R i j ≡ true)

@@ -44,14 +44,14 @@ pub levels-taken : (n : ℕ) (t : List ℕ) (seed : ℕ) {level : List ℕ} {cou
 levels-taken n t seed top L = let few = levels-most n t seed in (omega (arith, L .many), listed-take L (omega arith))
 
 -- `count` levels are found, `last` is the next, and `seen` has the stations of all these
-pub record Found (n : ℕ) (t : List ℕ) (seed : ℕ) (level : List ℕ) (count seen last : ℕ) : Type 0 where
+pub record Finding (n : ℕ) (t : List ℕ) (seed : ℕ) (level : List ℕ) (count seen last : ℕ) : Type 0 where
   pub below : seen < 2 ^ n
   pub small : last < 2 ^ n
   pub written : Writing (levels n t seed) level count (levelsFrom (n - count) n t seen last)
 
-pub found-start : (n : ℕ) (t : List ℕ) (seed : ℕ) → seed < n → Found n t seed (replicate 64 0) 0 (2 ^ seed) (2 ^ seed)
+pub finding-start : (n : ℕ) (t : List ℕ) (seed : ℕ) → seed < n → Finding n t seed (replicate 64 0) 0 (2 ^ seed) (2 ^ seed)
 unfolding levels
-found-start n t seed h =
+finding-start n t seed h =
     record {
       below = pow-lt h;
       small = pow-lt h;
@@ -60,10 +60,10 @@ found-start n t seed h =
           (writing-start (levels n t seed));
     }
 
-module _ {n : ℕ} {t : List ℕ} {seed : ℕ} {level : List ℕ} {count seen last : ℕ} (g : Found n t seed level count seen last) where
-  pub found-turn : (next : ℕ) → 0 < last → count < n → n ≤ 64 → next ≡ minus n (neighbourhood n t last) seen
-      → Found n t seed (set level count last) (count + 1) (bitOr seen next) next
-  found-turn next p l top e =
+module _ {n : ℕ} {t : List ℕ} {seed : ℕ} {level : List ℕ} {count seen last : ℕ} (g : Finding n t seed level count seen last) where
+  pub finding-turn : (next : ℕ) → 0 < last → count < n → n ≤ 64 → next ≡ minus n (neighbourhood n t last) seen
+      → Finding n t seed (set level count last) (count + 1) (bitOr seen next) next
+  finding-turn next p l top e =
       record {
         below = or-lt n seen next (g .below) small;
         small = small;
@@ -88,5 +88,5 @@ module _ {n : ℕ} {t : List ℕ} {seed : ℕ} {level : List ℕ} {count seen la
           ∙ from-more f n t seen last next p e
           ∙ ap (λ (s : ℕ). last ∷ levelsFrom f n t s next) joined
 
-  pub found-end : last ≡ 0 → count ≤ 64 → Listed (levels n t seed) level count
-  found-end z h = writing-end (g .written) h (ap (levelsFrom (n - count) n t seen) z ∙ from-none (n - count) n t seen)
+  pub finding-end : last ≡ 0 → count ≤ 64 → Listed (levels n t seed) level count
+  finding-end z h = writing-end (g .written) h (ap (levelsFrom (n - count) n t seen) z ∙ from-none (n - count) n t seen)

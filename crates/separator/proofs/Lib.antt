@@ -8,7 +8,7 @@ pub mod RoundChoice
 pub mod Separator
 pub mod MarkLaws
 pub mod LevelLaws
-pub mod WidthLaws
+pub mod NeighbourLaws
 pub mod GrowLaws
 pub mod ArrayLaws
 pub mod LevelsLaws

@@ -16,10 +16,6 @@ use Rattle.separator.specs.Components.{components}
 use Rattle.separator.specs.Level.{stands, marked, marking, marks}
 
 module _ (n : ℕ) (t : List ℕ) (s : ℕ) (cs : List ℕ) (i j m : ℕ) where
-  pub marked-intro : has s i ≡ true → has s j ≡ true → i ≢ j → stands n t cs i j m ≡ true → marked n t s cs i j m ≡ true
-  unfolding marked
-  marked-intro hi hj ne on = and-intro (and-intro (and-intro hi hj) (ap not (ne-eqb i j ne))) on
-
   pub marked-elim : marked n t s cs i j m ≡ true → (has s i ≡ true) × (has s j ≡ true) × (i ≢ j) × (stands n t cs i j m ≡ true)
   unfolding marked
   marked-elim e =
@@ -30,6 +26,10 @@ module _ (n : ℕ) (t : List ℕ) (s : ℕ) (cs : List ℕ) (i j m : ℕ) where
         eqb-false i j (not-true (eqb i j) (and-r (has s i && has s j) (not (eqb i j)) pair)),
         and-r (has s i && has s j && not (eqb i j)) (stands n t cs i j m) e,
       )
+
+  pub marked-intro : has s i ≡ true → has s j ≡ true → i ≢ j → stands n t cs i j m ≡ true → marked n t s cs i j m ≡ true
+  unfolding marked
+  marked-intro hi hj ne on = and-intro (and-intro (and-intro hi hj) (ap not (ne-eqb i j ne))) on
 
   pub marked-pair : marked n t s cs i j m ≡ true → (has s i ≡ true) × (has s j ≡ true)
   marked-pair e = let f = marked-elim e in (f .0, f .1)

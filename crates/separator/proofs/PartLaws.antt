@@ -1,6 +1,6 @@
 -- Components found one after the other, as the code finds them. Assumes nothing.
-use mathlib.Core.Path.{_≡_, refl, sym, ap, ap₂, _∙_, subst}
-use mathlib.Core.Bool.{Bool, true, not, _&&_}
+use mathlib.Core.Path.{_≡_, refl, sym, ap, _∙_, subst}
+use mathlib.Core.Bool.{Bool, true}
 use mathlib.Core.List.{List, [], _∷_}
 use Prim.Native.Nat.{ℕ, zero, suc, _+_, _-_, _^_, _≤_, _<_, zero-le, suc-le-suc}
 use native.Mathlib.Nat.{sub-zero}
@@ -12,33 +12,14 @@ use lib.ListN.{length, set, replicate}
 use borrow.Author.Tests.{ne-eqb}
 use Rattle.bitset.specs.Sets.{has, first, minus}
 use Rattle.bitset.specs.inner.Members.{Least}
-use Rattle.bitset.proofs.BoolLaws.{and-l, cond-false, cond-elim}
-use Rattle.bitset.proofs.FirstLaws.{first-at, before-first}
-use Rattle.bitset.proofs.SetLaws.{has-diff}
-use Rattle.bitset.proofs.OnesLaws.{ones-strict}
+use Rattle.bitset.proofs.BoolLaws.{cond-false, cond-elim}
+use Rattle.bitset.proofs.OnesLaws.{ones-less}
 use Rattle.bitset.proofs.LeastLaws.{trailing-least}
-use Rattle.bitset.proofs.MachineLaws.{least-unique}
+use Rattle.bitset.proofs.MachineLaws.{wide, minus-of, trailing-first}
 use Rattle.circuit.specs.Legs.{neighbours}
 use Rattle.separator.specs.Components.{grow, componentsFrom, components}
 use Rattle.separator.specs.inner.Reach.{Listed}
-use Rattle.separator.proofs.WidthLaws.{wide, member-below, minus-of}
 use Rattle.separator.proofs.ArrayLaws.{Writing, writing-start, writing-turn, writing-end}
-
--- the first of the n stations in a set is the one that `trailing_zeros` finds
-first-is : (n rest : ℕ) → n ≤ 64 → 0 < rest → rest < 2 ^ n → first n (has rest) ≡ trailingZeros 64 rest
-first-is n rest top p h =
-    let z = trailing-least 64 rest p (wide top h) in
-    let f = first-at n (has rest) (trailingZeros 64 rest) (member-below n rest (trailingZeros 64 rest) h (z .member)) (z .member) in
-    let g : Least 64 rest (first n (has rest)) = record { below = omega (arith, f .0); member = f .1; least = before-first n (has rest) } in
-    least-unique g z
-
--- `rest & !c` has lost a station
-pub ones-less : (rest c z : ℕ) → rest < 2 ^ 64 → c < 2 ^ 64 → z < 64 → has rest z ≡ true → has c z ≡ true
-    → ones (bitAnd rest ((2 ^ 64 - 1) - c)) < ones rest
-ones-less rest c z hr hc l e f =
-    ones-strict 64 (bitAnd rest ((2 ^ 64 - 1) - c)) rest z (omega (arith, and-le-l rest ((2 ^ 64 - 1) - c))) hr
-    (λ k d q. and-l (has rest k) (not (has c k)) (sym (has-diff 64 rest c k hc d) ∙ q)) l e
-    (has-diff 64 rest c z hc l ∙ ap₂ (λ (a b : Bool). a && not b) e f)
 
 module _ (n : ℕ) (R : ℕ → ℕ → Bool) (room : ℕ) where
   -- the components of the stations of `rest`, f at most
@@ -87,7 +68,7 @@ module _ (n : ℕ) (R : ℕ → ℕ → Bool) (room : ℕ) where
         low = trailing-least 64 rest p (wide top (g .below))
 
         less : ones (bitAnd rest ((2 ^ 64 - 1) - c)) < ones rest
-        less = ones-less rest c (trailingZeros 64 rest) (wide top (g .below)) hc (low .below) (low .member) member
+        less = ones-less 64 rest c (trailingZeros 64 rest) (wide top (g .below)) hc (low .below) (low .member) member
 
         f : ℕ
         f = n - (count + 1)
@@ -96,13 +77,13 @@ module _ (n : ℕ) (R : ℕ → ℕ → Bool) (room : ℕ) where
         fuel = omega (arith, g .enough, less)
 
         grown : c ≡ grow n n R room (2 ^ first n (has rest))
-        grown = e ∙ ap (λ (z : ℕ). grow n n R room (2 ^ z)) (sym (first-is n rest top p (g .below)))
+        grown = e ∙ ap (λ (z : ℕ). grow n n R room (2 ^ z)) (sym (trailing-first top rest p (g .below)))
 
         more : list (n - count) rest ≡ c ∷ list f (bitAnd rest ((2 ^ 64 - 1) - c))
         more =
             ap (λ (k : ℕ). list k rest) fuel
             ∙ parts-more f rest c p grown
-            ∙ ap (λ (x : ℕ). c ∷ list f x) (sym (minus-of rest c top (g .below) hc))
+            ∙ ap (λ (x : ℕ). c ∷ list f x) (sym (minus-of top rest c (g .below) hc))
 
     pub listing-end : rest ≡ 0 → n ≤ 64 → Listed (list n room) part count
     listing-end z top = writing-end (g .written) (omega (arith, g .enough)) (ap (list (n - count)) z ∙ parts-none (n - count))

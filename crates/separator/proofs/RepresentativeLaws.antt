@@ -12,38 +12,25 @@ use Rattle.bitset.proofs.BoolLaws.{and-intro, and-l, and-r}
 use Rattle.bitset.proofs.QuantLaws.{any-intro, any-elim}
 use Rattle.bitset.proofs.FirstLaws.{first-at}
 use Rattle.separator.specs.Level.{choice}
+use Rattle.separator.specs.Representatives.{Representatives, AllMarked, CanTake}
 use Rattle.separator.proofs.ChooseLaws.{Found, needed, needed-in, needed-low, choice-chosen, chosen-choice}
-
--- distinct representatives: each component below p has a station of its own that can take it
-pub record Representatives (Can : ℕ → ℕ → Type 0) (p : ℕ) : Type 0 where
-  pub of : ℕ → ℕ
-  pub can : (c : ℕ) → c < p → Can c (of c)
-  pub apart : (c d : ℕ) → c < p → d < p → of c ≡ of d → c ≡ d
 
 first-any : (m : ℕ) (p : ℕ → Bool) → any m p ≡ true → (first m p < m) × (p (first m p) ≡ true)
 first-any m p e = let k = any-elim m p e in first-at m p (k .0) (k .1) (k .2)
 
 module _ (n s p : ℕ) (may : ℕ → ℕ → ℕ → Bool) where
-  -- each station of s has a mark on one of its pairs
-  abbrev pub AllMarked : Type 0
-  AllMarked = (x : ℕ) → x < n → has s x ≡ true → any n (λ y. any (suc p) (may x y)) ≡ true
-
-  -- x is a station of s that can take the component c
-  abbrev pub CanTake : ℕ → ℕ → Type 0
-  CanTake c x = (x < n) × (has s x ≡ true) × (any n (λ y. may x y (suc c)) ≡ true)
-
-  abbrev Chosen : Type 0
-  Chosen = Found n n s p may (needed p)
+  abbrev Given : Type 0
+  Given = Found n n s p may (needed p)
 
   -- ---- a choice has marks and representatives
 
-  chosen-marked : Chosen → AllMarked
+  chosen-marked : Given → AllMarked n s p may
   chosen-marked C x l e =
       let r = C .stands x l e in
       any-intro n (λ y. any (suc p) (may x y)) (C .other x) (r .0)
       (any-intro (suc p) (may x (C .other x)) (C .mark x) (suc-le-suc (r .1)) (r .2))
 
-  chosen-apart : Chosen → Representatives CanTake p
+  chosen-apart : Given → Representatives (CanTake n s p may) p
   chosen-apart C =
       record {
         of = of;
@@ -70,7 +57,7 @@ module _ (n s p : ℕ) (may : ℕ → ℕ → ℕ → Bool) where
 
   -- ---- marks and representatives make a choice: a representative takes its component, any other station the first mark that it has
 
-  apart-chosen : AllMarked → Representatives CanTake p → Chosen
+  apart-chosen : AllMarked n s p may → Representatives (CanTake n s p may) p → Given
   apart-chosen M R =
       record {
         other = λ x. other x (taken x);
@@ -101,7 +88,7 @@ module _ (n s p : ℕ) (may : ℕ → ℕ → ℕ → Bool) where
           → (other x b < n) × (mark x b ≤ p) × (may x (other x b) (mark x b) ≡ true)
       stands x l e true t =
           let c = first-any p (represents x) t in
-          let can : CanTake (component x) x = subst (CanTake (component x)) (eqb-true (R .of (component x)) x (c .1)) (R .can (component x) (c .0)) in
+          let can : CanTake n s p may (component x) x = subst (CanTake n s p may (component x)) (eqb-true (R .of (component x)) x (c .1)) (R .can (component x) (c .0)) in
           let y = first-any n (λ y. may x y (suc (component x))) (can .2) in
           (y .0, c .0, y .1)
       stands x l e false t =
@@ -120,8 +107,8 @@ module _ (n s p : ℕ) (may : ℕ → ℕ → ℕ → Bool) where
           (x, can .0, can .1, ap (mark x) t ∙ ap suc (R .apart (component x) c (b .0) l (eqb-true (R .of (component x)) x (b .1))))
 
   -- the theorem
-  pub choice-gives : choice n s p may ≡ true → AllMarked × Representatives CanTake p
+  pub choice-gives : choice n s p may ≡ true → AllMarked n s p may × Representatives (CanTake n s p may) p
   choice-gives e = let C = choice-chosen n s p may e in (chosen-marked C, chosen-apart C)
 
-  pub choice-found : AllMarked → Representatives CanTake p → choice n s p may ≡ true
+  pub choice-found : AllMarked n s p may → Representatives (CanTake n s p may) p → choice n s p may ≡ true
   choice-found M R = chosen-choice n s p may (apart-chosen M R)

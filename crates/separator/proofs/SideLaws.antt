@@ -1,26 +1,22 @@
 -- One side of a level, out or in: its words, gathered component by component, and their assignment. Assumes nothing.
 use mathlib.Core.Path.{_≡_, refl, sym, ap, ap₂, _∙_, subst}
 use mathlib.Core.Logic.{⊎-elim}
-use mathlib.Core.Bool.{Bool, true, false, not, _&&_, _||_, or-comm, or-false, false≢true}
+use mathlib.Core.Bool.{Bool, true, false, _||_, or-comm, or-false, false≢true}
 use mathlib.Core.List.{List}
-use Prim.Native.Nat.{ℕ, suc, _-_, _^_, _≤_, _<_}
+use Prim.Native.Nat.{ℕ, suc, _-_, _^_, _<_}
 use native.Mathlib.Nat.{not-suc-le-zero}
 use native.Mathlib.Omega.{arith}
-use lib.Bits.{bitAnd, bitOr, and-le-l, or-lt}
-use lib.Count.{trailingZeros}
+use lib.Bits.{bitAnd, bitOr, or-lt}
 use lib.ListN.{getD, length, set, length-set}
 use lib.Seq.{getD-set-same, getD-set-other}
-use borrow.Author.Tests.{not-true}
 use Rattle.bitset.specs.Sets.{has, setOf, any}
-use Rattle.bitset.proofs.BoolLaws.{not-both, and-l, and-r}
-use Rattle.bitset.proofs.HasLaws.{has-above, has-or}
-use Rattle.bitset.proofs.SetLaws.{setOf-elim, setOf-ext, eq-setOf, has-diff}
+use Rattle.bitset.proofs.BoolLaws.{not-both}
+use Rattle.bitset.proofs.HasLaws.{has-or}
+use Rattle.bitset.proofs.SetLaws.{setOf-elim, setOf-ext, eq-setOf, word-lt, word-has}
 use Rattle.bitset.proofs.QuantLaws.{at-or-below, any-elim}
-use Rattle.bitset.proofs.LeastLaws.{trailing-least}
-use Rattle.bitset.proofs.MachineLaws.{within-of-diff}
+use Rattle.bitset.proofs.WordLaws.{diff-none, diff-some}
 use Rattle.matching.specs.Matching.{Inside, Exact}
 use Rattle.separator.specs.inner.Spares.{Side, Settled}
-use Rattle.separator.proofs.EndsLaws.{word-lt, word-has}
 
 -- ---- gathering: the bare marks first, then one component after the other
 
@@ -84,23 +80,10 @@ side-at {may} {c} {p} {fits} {some} S e = subst (λ (n : ℕ). Side may n fits s
 
 -- ---- the test `s & !some != 0`, and the assignment
 
-missing : (s w : ℕ) → s < 2 ^ 64 → w < 2 ^ 64 → 0 < bitAnd s ((2 ^ 64 - 1) - w) → (x : ℕ) × (has s x ≡ true) × (has w x ≡ false)
-missing s w hs hw p =
-    let v : ℕ = bitAnd s ((2 ^ 64 - 1) - w) in
-    let x : ℕ = trailingZeros 64 v in
-    let r = trailing-least 64 v p (omega (arith, and-le-l s ((2 ^ 64 - 1) - w))) in
-    let b : has s x && not (has w x) ≡ true = sym (has-diff 64 s w x hw (r .below)) ∙ r .member in
-    (x, and-l (has s x) (not (has w x)) b, not-true (has w x) (and-r (has s x) (not (has w x)) b))
-
-covered : (s w : ℕ) → s < 2 ^ 64 → w < 2 ^ 64 → bitAnd s ((2 ^ 64 - 1) - w) ≡ 0 → (x : ℕ) → has s x ≡ true → has w x ≡ true
-covered s w hs hw e x i =
-    let low : 64 ≤ x → ⊥ = λ l. not-both i (has-above 64 s x hs l) in
-    within-of-diff 64 s w hw e x (omega arith) i
-
 module _ (fits : List ℕ) (p s some : ℕ) (hs : s < 2 ^ 64) (hw : some < 2 ^ 64) where
   pub settled-unmarked : 0 < bitAnd s ((2 ^ 64 - 1) - some) → Settled fits p s some false 0
   settled-unmarked h =
-      let (x, i, z) = missing s some hs hw h in
+      let (x, i, z) = diff-some 64 s some hs hw h in
       record {
         both = record { holds = λ e. absurd (false≢true e); found = λ (M, a). absurd (not-both (M x i) z) };
         left = λ e. absurd (false≢true e);
@@ -111,7 +94,7 @@ module _ (fits : List ℕ) (p s some : ℕ) (hs : s < 2 ^ 64) (hw : some < 2 ^ 6
       → Settled fits p s some complete spare
   settled-assigned complete spare z E =
       record {
-        both = record { holds = λ e. (covered s some hs hw z, E .some .holds e); found = λ (M, a). E .some .found a };
+        both = record { holds = λ e. (diff-none 64 s some hs hw z, E .some .holds e); found = λ (M, a). E .some .found a };
         left = E .left;
         empty = E .empty;
       }

@@ -9,8 +9,9 @@ use native.Mathlib.Omega.{arith}
 use borrow.Author.Tests.{not-false}
 use Rattle.bitset.specs.Sets.{has, any}
 use Rattle.bitset.proofs.BoolLaws.{iff, cases, and-intro, and-l, and-r}
-use Rattle.bitset.proofs.SetLaws.{setOf-elim}
-use Rattle.bitset.proofs.QuantLaws.{any-intro, any-elim, any-ext}
+use Rattle.bitset.proofs.SetLaws.{setOf-elim, word-has}
+use Rattle.bitset.proofs.HasLaws.{member-below}
+use Rattle.bitset.proofs.QuantLaws.{any-intro, any-elim, any-ext, any-low}
 use Rattle.circuit.specs.Legs.{leg}
 use Rattle.circuit.specs.State.{stray}
 use Rattle.bitset.specs.Upto.{row}
@@ -18,13 +19,12 @@ use Rattle.matching.specs.Matching.{Assignment}
 use Rattle.separator.specs.declared.level.Spares.{Spares}
 use Rattle.separator.specs.Components.{components}
 use Rattle.separator.specs.Level.{Marking, marking, marked, marks, choice, outMay, inMay, takes, passable, struck}
+use Rattle.separator.specs.Representatives.{Representatives, AllMarked, CanTake}
 use Rattle.separator.specs.inner.Reach.{Listed}
 use Rattle.separator.specs.inner.Spares.{Side, Settled, SparesOf}
-use Rattle.separator.proofs.RepresentativeLaws.{Representatives, AllMarked, CanTake, choice-gives, choice-found}
+use Rattle.separator.proofs.RepresentativeLaws.{choice-gives, choice-found}
 use Rattle.separator.proofs.TakesLaws.{takes-gives, takes-found}
-use Rattle.separator.proofs.EndsLaws.{word-has}
 use Rattle.separator.proofs.MarkingLaws.{marked-pair}
-use Rattle.separator.proofs.CleanLaws.{any-low, member-low}
 use Rattle.separator.proofs.StandLaws.{last-is, marks-is, marks-bare}
 use Rattle.separator.proofs.SideLaws.{side-at, settled-at}
 
@@ -41,7 +41,7 @@ module _ (n s p : ℕ) (may R : ℕ → ℕ → ℕ → Bool) (most : n ≤ 64) 
     (only : (x y m : ℕ) → R x y m ≡ true → (has s x ≡ true) × (has s y ≡ true)) where
   row-any : (x m : ℕ) → x < n → m < suc p → any 64 (λ y. R x y m) ≡ any n (λ y. may x y m)
   row-any x m lx lm =
-      any-low n (λ y. R x y m) most (λ y ly e. below y (only x y m e .1)) ∙ any-ext n _ _ (λ y ly. sym (agree x y m lx ly lm))
+      any-low 64 n (λ y. R x y m) most (λ y ly e. below y (only x y m e .1)) ∙ any-ext n _ _ (λ y ly. sym (agree x y m lx ly lm))
 
   module _ (fits : List ℕ) (some : ℕ) (S : Side R p fits some) where
     fits-can : (c x : ℕ) → c < p → has (row fits c) x ≡ true → CanTake n s p may c x
@@ -140,12 +140,12 @@ module _ (n : ℕ) (t : List ℕ) (most : n ≤ 64) (clean : stray n t ≡ false
     where
       out : SideSays n s (d .last) (outMay d) leaving (r .out)
       out =
-          side-says n s (d .last) (outMay d) (marked 64 t s parts) most (λ k. member-low n s k low) agree
+          side-says n s (d .last) (outMay d) (marked 64 t s parts) most (λ k. member-below n s k low) agree
           (marked-pair 64 t s parts) outs tails (side-at So last) leaving (r .out) (settled-at To last)
 
       into : SideSays n s (d .last) (inMay d) entering (r .into)
       into =
-          side-says n s (d .last) (inMay d) (λ x y. marked 64 t s parts y x) most (λ k. member-low n s k low) (λ x y m lx ly. agree y x m ly lx)
+          side-says n s (d .last) (inMay d) (λ x y. marked 64 t s parts y x) most (λ k. member-below n s k low) (λ x y m lx ly. agree y x m ly lx)
           (λ x y m e. let f = marked-pair 64 t s parts y x m e in (f .1, f .0)) ins heads (side-at Si last) entering (r .into) (settled-at Ti last)
 
       -- a leg inside s

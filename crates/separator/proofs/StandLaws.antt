@@ -11,7 +11,7 @@ use Rattle.bitset.specs.Sets.{has, setOf, any, meet}
 use Rattle.bitset.specs.Upto.{row}
 use Rattle.bitset.proofs.BoolLaws.{not-both, and-l}
 use Rattle.bitset.proofs.SetLaws.{has-setOf}
-use Rattle.bitset.proofs.QuantLaws.{any-ext}
+use Rattle.bitset.proofs.QuantLaws.{any-ext, any-low}
 use Rattle.bitset.proofs.UptoLaws.{getD-upto}
 use Rattle.circuit.specs.Legs.{leg, col}
 use Rattle.circuit.specs.State.{stray}
@@ -20,7 +20,7 @@ use Rattle.separator.specs.Components.{components}
 use Rattle.separator.specs.Level.{joins, stands, marked, marking, marks}
 use Rattle.separator.specs.inner.Reach.{Listed}
 use Rattle.separator.proofs.PartLaws.{components-most}
-use Rattle.separator.proofs.CleanLaws.{any-low, leg-low}
+use Rattle.separator.proofs.CleanLaws.{leg-low}
 use Rattle.separator.proofs.MarkingLaws.{marked-intro, marks-marked}
 
 -- of the list, a mark sees its own component alone
@@ -35,9 +35,9 @@ module _ (n : ℕ) (t : List ℕ) (most : n ≤ 64) (clean : stray n t ≡ false
   unfolding joins meet col leg
   joins-64 w i j li =
       ap₂ (λ (x y : Bool). x && y)
-      (sym (any-low n (λ k. leg t i k && has w k) most (λ k l e. leg-low n t most clean i k (lt-of-lt-of-le li most) (and-l (leg t i k) (has w k) e) .1)))
+      (sym (any-low 64 n (λ k. leg t i k && has w k) most (λ k l e. leg-low n t most clean i k (lt-of-lt-of-le li most) (and-l (leg t i k) (has w k) e) .1)))
       (column n
-      ∙ sym (any-low n (λ k. leg t k j && has w k) most (λ k l e. leg-low n t most clean k j l (and-l (leg t k j) (has w k) e) .0))
+      ∙ sym (any-low 64 n (λ k. leg t k j && has w k) most (λ k l e. leg-low n t most clean k j l (and-l (leg t k j) (has w k) e) .0))
       ∙ sym (column 64))
     where
       column : (b : ℕ) → any b (λ k. has (setOf b (λ i. leg t i j)) k && has w k) ≡ any b (λ k. leg t k j && has w k)

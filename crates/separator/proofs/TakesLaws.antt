@@ -12,7 +12,8 @@ use Rattle.bitset.specs.Sets.{has, any}
 use Rattle.bitset.proofs.BoolLaws.{not-both, cases, and-intro, and-l, and-r, or-l, or-r, or-cases}
 use Rattle.bitset.proofs.QuantLaws.{any-intro, any-elim}
 use Rattle.separator.specs.Level.{choice, takes}
-use Rattle.separator.proofs.RepresentativeLaws.{Representatives, AllMarked, CanTake, choice-gives, choice-found}
+use Rattle.separator.specs.Representatives.{Representatives, AllMarked, CanTake}
+use Rattle.separator.proofs.RepresentativeLaws.{choice-gives, choice-found}
 
 module _ (n s p : ℕ) (may : ℕ → ℕ → ℕ → Bool) (x y : ℕ) where
   abbrev HasMark : (ℕ → ℕ → ℕ → Bool) → ℕ → Type 0

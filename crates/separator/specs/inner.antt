@@ -1,4 +1,3 @@
 -- What the functions promise each other.
 pub mod Reach
 pub mod Spares
-pub mod Strike

@@ -117,7 +117,8 @@ fn settle(fits: &[u64; 64], p: usize, s: u64, some: u64) -> matching::Assigned
     matching::assign(fits, p, s)
 }
 
-// The spare stations of the level s, out and in; `parts` has the p components outside s, and n is the number of stations of the table.
+// The spare stations of the level s, out and in; `parts` has the p components outside s. The code needs no n, so the promise is for any n stations that the
+// table has. Left open are `out` and `into` where the verdict is none, as `SparesOf` says.
 pub(crate) fn spare_stations(rows: &[u64; 64], s: u64, parts: &[u64; 64], p: usize) -> Spares
     requires { ⌜ p ≤ 64 ⌝ }
     ensures { λ r. ⌜ ((n : ℕ) → n ≤ 64 → stray n (now (rows .entry)) ≡ false → s < 2 ^ n

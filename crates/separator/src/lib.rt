@@ -6,18 +6,14 @@ pub use reach::Levels;
 pub use reach::levels_from;
 pub use reach::neighbours;
 ghost use denote.Ref.{now};
-ghost use mathlib.Core.Bool.{false};
-ghost use mathlib.Core.Path.{_≡_};
 ghost use Prim.Native.Nat.{_^_, _<_, _≤_};
-ghost use lib.ListN.{length};
-ghost use Rattle.circuit.specs.Legs.{columns};
-ghost use Rattle.circuit.specs.State.{stray};
-ghost use Rattle.separator.specs.inner.Strike.{LevelOf};
+ghost use Rattle.circuit.specs.inner.Tables.{Columned, TableTaken};
+ghost use Rattle.separator.specs.Level.{level};
 
 // The rule of the level s: strikes its legs from the rows and, alike, from the columns, and answers whether the verdict is none.
 pub fn strike(rows: &mut [u64; 64], cols: &mut [u64; 64], n: usize, s: u64) -> bool
-    requires { ⌜ (n ≤ 64) × (s < 2 ^ n) × (stray n (now rows) ≡ false) × (length (now rows) ≡ 64) × (now cols ≡ columns n (now rows)) ⌝ }
-    ensures { λ r. ⌜ LevelOf n s (now (rows .entry)) r (now (rows .exit)) (now (cols .exit)) ⌝ }
+    requires { ⌜ (n ≤ 64) × (s < 2 ^ n) × Columned n (now rows) (now cols) ⌝ }
+    ensures { λ r. ⌜ TableTaken n (level n (now (rows .entry)) s) r (now (rows .exit)) (now (cols .exit)) ⌝ }
 {
     let nbr = reach::neighbours(rows, cols, n);
     let parts = reach::components_of(&nbr, bitset::full(n) & !s);

@@ -1,11 +1,8 @@
 -- What the leaf functions promise of the members of a word.
 use mathlib.Core.Path.{_≡_}
-use Prim.Native.Nat.{ℕ, _+_, _-_, _<_}
-use mathlib.Core.Bool.{true, false, not, _&&_}
-use lib.Bits.{bitAnd}
-use lib.Count.{ones, trailingZeros}
-use lib.Dec.{eqb}
-use Rattle.bitset.specs.Sets.{has, setOf}
+use Prim.Native.Nat.{ℕ, _<_}
+use mathlib.Core.Bool.{true, false}
+use Rattle.bitset.specs.Sets.{has}
 
 -- every member of a below m is one of b
 abbrev pub Within : ℕ → ℕ → ℕ → Type 0
@@ -16,9 +13,3 @@ pub record Least (m w t : ℕ) : Type 0 where
   pub below : t < m
   pub member : has w t ≡ true
   pub least : (k : ℕ) → k < t → has w k ≡ false
-
--- r is w without its least member, which `trailing_zeros` finds
-pub record Rest (m w r : ℕ) : Type 0 where
-  pub word : r ≡ bitAnd w (w - 1)
-  pub bits : r ≡ setOf m (λ j. has w j && not (eqb j (trailingZeros m w)))
-  pub fewer : ones r + 1 ≡ ones w

@@ -1,6 +1,6 @@
 -- What the functions on tables promise each other.
 use mathlib.Core.Path.{_≡_}
-use mathlib.Core.Bool.{false, not, cond}
+use mathlib.Core.Bool.{Bool, false, not, cond}
 use mathlib.Core.List.{List}
 use Prim.Native.Nat.{ℕ, _^_, _<_}
 use lib.Bits.{bitOr}
@@ -8,6 +8,7 @@ use lib.Dec.{eqb, ltb}
 use lib.ListN.{length}
 use Rattle.bitset.specs.Sets.{has, setOf}
 use Rattle.bitset.specs.Upto.{row}
+use Rattle.circuit.specs.declared.verdict.Verdict.{Verdict}
 use Rattle.circuit.specs.Legs.{leg, columns, tableOf}
 use Rattle.circuit.specs.State.{stray}
 
@@ -20,6 +21,11 @@ pub record Columned (n : ℕ) (rows cols : List ℕ) : Type 0 where
   pub clean : stray n rows ≡ false
   pub len : length rows ≡ 64
   pub columns : cols ≡ columns n rows
+
+-- the verdict v was taken: whether it is none, and the rows that it leaves with their columns
+pub record TableTaken (n : ℕ) (v : Verdict) (none : Bool) (rows cols : List ℕ) : Type 0 where
+  pub verdict : v ≡ record { none = none; left = rows }
+  pub table : Columned n rows cols
 
 -- row i of the full table
 unfoldable pub fullRow : ℕ → ℕ → ℕ

@@ -9,7 +9,6 @@ use Rattle.bitset.specs.Sets.{size}
 use Rattle.circuit.specs.declared.state.Work.{Work}
 use Rattle.circuit.specs.declared.verdict.Verdict.{Verdict}
 use Rattle.circuit.specs.Legs.{Subtable}
-use Rattle.circuit.specs.inner.Tables.{Columned}
 use Rattle.circuit.specs.State.{rowsOf, moved, stray}
 use Rattle.circuit.specs.Verdict.{leaves}
 use Rattle.separator.specs.Level.{level}
@@ -28,11 +27,6 @@ limited n limit s t = cond (leb (size n s) limit) (level n t s) (leaves t)
 -- the first `count` words are sets of stations
 abbrev pub LevelsBelow : ℕ → ℕ → List ℕ → Type 0
 LevelsBelow n count level = (k : ℕ) → k < count → getD level k 0 < 2 ^ n
-
--- the verdict v, and the rows that it leaves with their columns
-pub record TableTaken (n : ℕ) (v : Verdict) (none : Bool) (rows cols : List ℕ) : Type 0 where
-  pub verdict : v ≡ record { none = none; left = rows }
-  pub table : Columned n rows cols
 
 -- where a step with a verdict takes the run: place, mark and end of the state after it
 abbrev pub Advanced : ℕ → Cursor → Bool → ℕ → Cursor → Type 0

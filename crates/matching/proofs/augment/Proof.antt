@@ -9,7 +9,8 @@ use borrow.Author.Needs.{needs}
 use borrow.Author.Tests.{not-true, not-false}
 use Rattle.bitset.specs.Upto.{row}
 use Rattle.matching.specs.Matching.{Out}
-use Rattle.matching.proofs.WordLaws.{Without, member-below, without-one, fewer}
+use Rattle.bitset.proofs.HasLaws.{member-below}
+use Rattle.bitset.proofs.WordLaws.{Without, without-one, fewer}
 use Rattle.matching.proofs.PutLaws.{Put, put-set}
 use Rattle.matching.proofs.PathLaws.{Path, path-start, path-step, path-next, path-end}
 use Rattle.matching.proofs.augment.Statement.{statement}
@@ -21,6 +22,10 @@ Inv-loop fits owner₀ via n stations free reach first c₀ s₀ rest₀ owner c
 
 abbrev μ-loop : tie.MeasureT-loop
 μ-loop fits owner₀ via n stations free reach first c₀ s₀ rest₀ owner c s rest = rest
+
+-- a turn's start, from its end
+abbrev top : tie.After-s Inv-loop μ-loop → tie.At-loop Inv-loop μ-loop
+top c = c .before .before .before .before .before
 
 cast-c : tie.Need-cast-c Inv-loop μ-loop
 cast-c c = search needs
@@ -65,15 +70,14 @@ cast-s c =
     omega (arith, member-below 64 _ _ (l .before .fits .reach .fits) (s .stays))
 
 less : (c : tie.After-s Inv-loop μ-loop)
-    → Without (c .before .before .before .before .before .loop .rest) (c .before .before .before .before .before .loop .s)
-    (bitAnd (c .before .before .before .before .before .loop .rest) ((2 ^ 64 - 1) - c .before .singleton .result))
+    → let v = top c .loop in Without (v .rest) (v .s) (bitAnd (v .rest) ((2 ^ 64 - 1) - c .before .singleton .result))
 less c =
-    let l = c .before .before .before .before .before in
-    without-one (l .loop .rest) (l .loop .s) (c .before .singleton .result) (l .loop .inv .0) (s-below l) (c .before .singleton .ensures)
+    let l = top c in
+    without-one 64 (l .loop .rest) (l .loop .s) (c .before .singleton .result) (l .loop .inv .0) (s-below l) (c .before .singleton .ensures)
 
 loop-less : tie.Need-loop-less Inv-loop μ-loop
 loop-less c =
-    let l = c .before .before .before .before .before in
+    let l = top c in
     let p = l .loop .inv .2 in
     fewer (l .loop .rest) (l .loop .s) ((2 ^ 64 - 1) - c .before .singleton .result) (p .ahead (l .loop .s) (p .within) (le-refl (p .rank (l .loop .s)))) (less c)
 
@@ -98,7 +102,7 @@ returns c =
     let a = l .before .args in
     path-end _ _ _ _ _ _ (l .before .pre .1 .forest .inside) (l .loop .inv .2) (set (l .loop .owner) (l .loop .s) (l .loop .c)) (move l) _ (simp length-set (l .loop .inv .1))
     (l .before .pre .1 .matched .inside) (sym (c .before .before .contains .ensures) ∙ not-false _ (c .before .if1 .left))
-    (without-one (a .free) (l .loop .s) (c .singleton2 .result) (l .before .fits .free .fits) (s-below l) (c .singleton2 .ensures))
+    (without-one 64 (a .free) (l .loop .s) (c .singleton2 .result) (l .before .fits .free .fits) (s-below l) (c .singleton2 .ensures))
 
 pub augment-spec : {M : Type 1} → statement M
 augment-spec =

@@ -7,12 +7,16 @@ use lib.ListN.{set, length-set}
 use borrow.Author.Needs.{needs}
 use Rattle.bitset.specs.Upto.{row}
 use Rattle.matching.specs.Matching.{Inside}
-use Rattle.matching.proofs.WordLaws.{in-and, and-none, without-one}
+use Rattle.bitset.proofs.WordLaws.{in-and, and-none, without-one}
 use Rattle.matching.proofs.PutLaws.{put-set}
 use Rattle.matching.proofs.PathLaws.{direct}
 use Rattle.matching.proofs.HallLaws.{inside-less, stuck}
 use Rattle.matching.proofs.extend.Statement.{statement}
 use Rattle.matching.proofs.extend.Tie as tie
+
+-- the entry, from where the search is done
+abbrev start : tie.After-reachable → tie.Start
+start g = g .before .before .before .before .before
 
 mul-direct : tie.Need-mul-direct
 mul-direct c = search needs
@@ -47,7 +51,7 @@ returns c =
       size = b .pre .1;
       yes = λ _. direct (now (a .fits)) (now (a .owner)) (set (now (a .owner)) s (a .n)) (a .n) (a .stations) (a .free) s _ m (i .0) (i .1)
           (simp length-set (m .size)) (put-set (now (a .owner)) s (a .n) (omega (arith, l .below, m .size)))
-          (without-one (a .free) s (c .singleton .result) (b .fits .free .fits) (l .below) (c .singleton .ensures));
+          (without-one 64 (a .free) s (c .singleton .result) (b .fits .free .fits) (l .below) (c .singleton .ensures));
       no = λ e. absurd (true≢false e);
     }
 
@@ -66,7 +70,7 @@ element-copy-out-hit c = search needs
 returns-2 : tie.Need-returns-2
 returns-2 c =
     let g = c .before .before in
-    let b = g .before .before .before .before .before in
+    let b = start g in
     let a = b .args in
     let less : Inside (now (a .fits)) (a .n) (a .stations) = inside-less (now (a .fits)) (a .n) (a .n + 1) (a .stations) (omega arith) (b .pre .2) in
     record {
@@ -85,7 +89,7 @@ cast-augment c = search needs
 augment-requires : tie.Need-augment-requires
 augment-requires c κs =
     let g = c .before .before .before .before .before in
-    let b = g .before .before .before .before .before in
+    let b = start g in
     let a = b .args in
     let i = in-and (row (now (a .fits)) (a .n)) (g .reachable .result) (c .lowest2 .result) (c .lowest2 .ensures .1 .member) in (
       b .pre .0,

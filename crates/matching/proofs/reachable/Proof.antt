@@ -11,7 +11,7 @@ use Rattle.bitset.specs.Sets.{has}
 use Rattle.bitset.proofs.BoolLaws.{not-both, is-false}
 use Rattle.bitset.proofs.HasLaws.{has-zero}
 use Rattle.bitset.specs.Upto.{row}
-use Rattle.matching.proofs.WordLaws.{With, in-and, and-none, in-diff, diff-in, with-one, without-least}
+use Rattle.bitset.proofs.WordLaws.{With, in-and, and-none, in-diff, diff-in, with-one, without-least}
 use Rattle.matching.proofs.PutLaws.{put-set}
 use Rattle.matching.proofs.SearchLaws.{Search, search-start, search-found, search-blocked, grown-less}
 use Rattle.matching.proofs.reachable.Statement.{statement}
@@ -24,6 +24,13 @@ Inv-loop fits owner stations free via₀ reach₀ rest₀ via reach rest =
 abbrev μ-loop : tie.MeasureT-loop
 μ-loop fits owner stations free via₀ reach₀ rest₀ via reach rest = (2 ^ 64 - reach) * 2 ^ 64 + rest
 
+-- positions in a turn: where the station s is found, from where it joins; and the turn's start
+abbrev chosen : tie.After-singleton Inv-loop μ-loop → tie.After-lowest Inv-loop μ-loop
+chosen c = c .before .before .before .before .before
+
+abbrev top : tie.After-lowest Inv-loop μ-loop → tie.At-loop Inv-loop μ-loop
+top d = d .before .before
+
 loop-holds : tie.Need-loop-holds Inv-loop μ-loop
 loop-holds c =
     let a = c .args in (
@@ -31,7 +38,7 @@ loop-holds c =
       omega (arith, and-le-l (a .stations) ((2 ^ 64 - 1) - a .free), c .fits .stations .fits),
       c .pre .0,
       search-start (now (a .fits)) (a .stations) (a .free) _ _ _ (c .pre .1)
-          (λ u. (in-diff (a .stations) (a .free) u (c .fits .stations .fits) (c .fits .free .fits), diff-in (a .stations) (a .free) u (c .fits .stations .fits) (c .fits .free .fits))),
+          (λ u. (in-diff 64 (a .stations) (a .free) (c .fits .stations .fits) (c .fits .free .fits) u, diff-in 64 (a .stations) (a .free) (c .fits .stations .fits) (c .fits .free .fits) u)),
     )
 
 lowest-requires : tie.Need-lowest-requires Inv-loop μ-loop
@@ -44,12 +51,12 @@ element-copy-out-hit : tie.Need-element-copy-out-hit Inv-loop μ-loop
 element-copy-out-hit c = search needs
 
 -- the component at s, which is not free, is below 64
-c-below : (c : tie.After-lowest Inv-loop μ-loop) → row (now (c .before .before .before .args .owner)) (c .lowest .result) < 64
+c-below : (c : tie.After-lowest Inv-loop μ-loop) → row (now (top c .before .args .owner)) (c .lowest .result) < 64
 c-below c =
-    let q = c .before .before .loop .inv .3 in
+    let q = top c .loop .inv .3 in
     let s = c .lowest .result in
     let o = q .fresh s (c .lowest .ensures .1 .member) in
-    c .before .before .before .pre .2 s (o .0) (is-false _ (λ f. not-both (q .forest .start s f) (o .1)))
+    top c .before .pre .2 s (o .0) (is-false _ (λ f. not-both (q .forest .start s f) (o .1)))
 
 cast-hit : tie.Need-cast-hit Inv-loop μ-loop
 cast-hit c = omega (arith, c-below (c .before))
@@ -74,19 +81,18 @@ singleton-requires c κs = search needs
 
 -- s joins
 joined : (c : tie.After-singleton Inv-loop μ-loop)
-    → With (c .before .before .before .before .before .before .before .loop .reach) (c .before .before .before .before .before .lowest .result)
-    (bitOr (c .before .before .before .before .before .before .before .loop .reach) (c .singleton .result))
+    → let v = top (chosen c) .loop in With (v .reach) (chosen c .lowest .result) (bitOr (v .reach) (c .singleton .result))
 joined c =
-    let d = c .before .before .before .before .before in
-    with-one (d .before .before .loop .reach) (d .lowest .result) (c .singleton .result) (d .before .before .loop .inv .0) (d .lowest .ensures .1 .below) (c .singleton .ensures)
+    let d = chosen c in
+    with-one 64 (top d .loop .reach) (d .lowest .result) (c .singleton .result) (top d .loop .inv .0) (d .lowest .ensures .1 .below) (c .singleton .ensures)
 
-more-fits : (c : tie.After-singleton Inv-loop μ-loop) → bitOr (c .before .before .before .before .before .before .before .loop .reach) (c .singleton .result) < 2 ^ 64
-more-fits c = let v = c .before .before .before .before .before .before .before .loop in or-lt 64 (v .reach) (c .singleton .result) (v .inv .0) (c .singleton .ok)
+more-fits : (c : tie.After-singleton Inv-loop μ-loop) → bitOr (top (chosen c) .loop .reach) (c .singleton .result) < 2 ^ 64
+more-fits c = let v = top (chosen c) .loop in or-lt 64 (v .reach) (c .singleton .result) (v .inv .0) (c .singleton .ok)
 
 loop-less : tie.Need-loop-less Inv-loop μ-loop
 loop-less c =
-    let d = c .before .before .before .before .before in
-    let l = d .before .before in
+    let d = chosen c in
+    let l = top d in
     let a = l .before .args in
     let w = bitOr (l .loop .reach) (c .singleton .result) in
     let up : l .loop .reach < w = joined c .more (l .loop .inv .3 .fresh (d .lowest .result) (d .lowest .ensures .1 .member) .1) in
@@ -95,8 +101,8 @@ loop-less c =
 
 loop-again : tie.Need-loop-again Inv-loop μ-loop
 loop-again c =
-    let d = c .before .before .before .before .before in
-    let l = d .before .before in
+    let d = chosen c in
+    let l = top d in
     let v = l .loop in
     let a = l .before .args in
     let s = d .lowest .result in
@@ -108,7 +114,7 @@ loop-again c =
       omega (arith, and-le-l (a .stations) ((2 ^ 64 - 1) - w), hs),
       simp length-set (v .inv .2),
       search-found (now (a .fits)) (a .stations) (a .free) (row (now (a .owner))) (row (v .via)) (v .reach) (v .rest) (v .inv .3) s (d .lowest .ensures .1 .member)
-          t w _ _ (b .0) (b .1) (joined c) (λ u. (in-diff (a .stations) w u hs (more-fits c), diff-in (a .stations) w u hs (more-fits c)))
+          t w _ _ (b .0) (b .1) (joined c) (λ u. (in-diff 64 (a .stations) w hs (more-fits c) u, diff-in 64 (a .stations) w hs (more-fits c) u))
           (put-set (v .via) s t (omega (arith, d .lowest .ensures .1 .below, v .inv .2))),
     )
 
@@ -117,13 +123,14 @@ sub-rest c = search needs
 
 loop-less-2 : tie.Need-loop-less-2 Inv-loop μ-loop
 loop-less-2 c =
-    let r = c .before .before .before .before .before .loop .rest in
-    omega (arith, and-le-r r (r - 1), c .before .before .before .before .loop-test .taken)
+    let d = c .before .before .before in
+    let r = top d .loop .rest in
+    omega (arith, and-le-r r (r - 1), d .before .loop-test .taken)
 
 loop-again-2 : tie.Need-loop-again-2 Inv-loop μ-loop
 loop-again-2 c =
     let d = c .before .before .before in
-    let l = d .before .before in
+    let l = top d in
     let v = l .loop in
     let a = l .before .args in
     let s = d .lowest .result in (
@@ -131,7 +138,7 @@ loop-again-2 c =
       omega (arith, and-le-l (v .rest) (v .rest - 1), v .inv .1),
       v .inv .2,
       search-blocked (now (a .fits)) (a .stations) (a .free) (row (now (a .owner))) (row (v .via)) (v .reach) (v .rest) (v .inv .3) s (d .lowest .ensures .1 .member)
-          _ (without-least (v .rest) s (omega (arith, d .before .loop-test .taken)) (v .inv .1) (d .lowest .ensures .0))
+          _ (without-least 64 (v .rest) s (omega (arith, d .before .loop-test .taken)) (v .inv .1) (d .lowest .ensures .0))
           (λ t. and-none (row (now (a .fits)) (row (now (a .owner)) s)) (v .reach) t (c .if1 .left)),
     )
 

@@ -1,23 +1,24 @@
 -- `separator::strike` meets its contract. Assumes nothing.
 use borrow.Author.Needs.{needs}
 use denote.Ref.{now}
-use mathlib.Core.Path.{ap, subst, _∙_}
+use mathlib.Core.Path.{sym, ap, subst, _∙_}
 use mathlib.Core.List.{List}
 use Prim.Native.Nat.{ℕ}
 use native.Mathlib.Omega.{arith}
 use lib.ListN.{length}
-use lib.Pow.{pow-mono}
-use native.Mathlib.Nat.{lt-of-lt-of-le}
+use Rattle.bitset.proofs.SetLaws.{diff-setOf}
+use Rattle.bitset.proofs.MachineLaws.{wide, full-without}
 use Rattle.bitset.proofs.UptoLaws.{length-upto}
+use Rattle.circuit.specs.declared.verdict.Verdict.{Verdict}
 use Rattle.circuit.specs.Legs.{col}
+use Rattle.circuit.specs.State.{stray}
 use Rattle.circuit.proofs.StateLaws.{stray-row}
 use Rattle.separator.specs.Components.{components}
 use Rattle.separator.specs.inner.Reach.{Listed}
 use Rattle.separator.specs.inner.Spares.{SparesOf, Cut}
-use Rattle.separator.proofs.WidthLaws.{outside-of}
 use Rattle.separator.proofs.PartLaws.{components-most}
 use Rattle.separator.proofs.CutLaws.{cut-cols}
-use Rattle.separator.proofs.ExactLaws.{level-none, level-leaves}
+use Rattle.separator.proofs.ExactLaws.{level-none, level-leaves, level-clean}
 use Rattle.separator.proofs.strike.Statement.{statement}
 use Rattle.separator.proofs.strike.Tie as tie
 
@@ -47,18 +48,19 @@ listed : (c : tie.After-components-of)
 listed c =
     let p = start (near c) .pre in
     let a = start (near c) .args in
-    let fits = lt-of-lt-of-le (p .1) (pow-mono (p .0)) in
+    let fits = wide (p .0) (p .1) in
+    let all = c .before .full .result in
     c .components-of .ensures (a .n) (now (a .rows)) (a .s) (record { most = p .0; table = near c .neighbours .ensures })
-    (outside-of (a .n) (c .before .full .result) (a .s) (p .0) (c .before .full .ensures) fits)
+    (full-without (p .0) (a .s) all _ (c .before .full .ensures) (diff-setOf 64 all (a .s) (c .before .full .ok) fits))
 
 -- what the marks and the matchings say of the level
 spares : (c : tie.After-spare-stations) → let a = entry c .args in SparesOf (a .n) (now (a .rows)) (a .s) (c .spare-stations .result)
-spares c = let p = entry c .pre in c .spare-stations .ensures (entry c .args .n) (p .0) (p .2) (p .1) (listed (parts c))
+spares c = let p = entry c .pre in c .spare-stations .ensures (entry c .args .n) (p .0) (p .2 .clean) (p .1) (listed (parts c))
 
 -- ---- the needs
 
 neighbours-requires : tie.Need-neighbours-requires
-neighbours-requires c κs = let p = c .before .before .pre in (p .0, stray-row _ _ (p .0) (p .2), p .4)
+neighbours-requires c κs = let p = c .before .before .pre in (p .0, stray-row _ _ (p .0) (p .2 .clean), p .2 .columns)
 
 full-requires : tie.Need-full-requires
 full-requires c κs = search needs
@@ -77,7 +79,7 @@ returns c =
     let r = c .before in
     let a = entry r .args in
     let p = entry r .pre in
-    record { verdict = level-none (a .n) (now (a .rows)) (a .s) (r .spare-stations .result) (spares r) (c .if1 .taken); len = p .3; columns = p .4 }
+    record { verdict = level-none (a .n) (now (a .rows)) (a .s) (r .spare-stations .result) (spares r) (c .if1 .taken); table = p .2 }
 
 cut-requires : tie.Need-cut-requires
 cut-requires c κs = search needs
@@ -85,7 +87,7 @@ cut-requires c κs = search needs
 cut-requires-2 : tie.Need-cut-requires-2
 cut-requires-2 c κs =
     let s = entry (c .before .before .before .before) in
-    ap length (s .pre .4) ∙ length-upto 64 (col (s .args .n) (now (s .args .rows)))
+    ap length (s .pre .2 .columns) ∙ length-upto 64 (col (s .args .n) (now (s .args .rows)))
 
 returns-2 : tie.Need-returns-2
 returns-2 c =
@@ -94,10 +96,15 @@ returns-2 c =
     let p = entry r .pre in
     let q = r .spare-stations .result in
     let C = c .before .before .cut .ensures in
+    let is = level-leaves (a .n) (now (a .rows)) (a .s) q (spares r) (p .0) (p .2 .clean) (tested c .if1 .left) (c .before .before .cut .last .0) C in
     record {
-      verdict = level-leaves (a .n) (now (a .rows)) (a .s) q (spares r) (p .0) (p .2) (tested c .if1 .left) (c .before .before .cut .last .0) C;
-      len = C .size;
-      columns = cut-cols (a .n) (p .0) C (subst (λ (l : List ℕ). Cut (a .s) (q .into) (q .out) l (c .cut2 .last .0)) (p .4) (c .cut2 .ensures));
+      verdict = is;
+      table =
+          record {
+            clean = ap (λ (v : Verdict). stray (a .n) (v .left)) (sym is) ∙ level-clean (a .n) (now (a .rows)) (a .s) (p .0) (p .2 .clean);
+            len = C .size;
+            columns = cut-cols (a .n) (p .0) C (subst (λ (l : List ℕ). Cut (a .s) (q .into) (q .out) l (c .cut2 .last .0)) (p .2 .columns) (c .cut2 .ensures));
+          };
     }
 
 pub strike-spec : {M : Type 1} → statement M

@@ -6,7 +6,8 @@ use native.Mathlib.Omega.{arith}
 use lib.ListN.{getD, replicate, length-replicate, getD-replicate}
 use Rattle.bitset.proofs.UptoLaws.{Changed, changed-none, changed-more, changed-end}
 use Rattle.circuit.specs.Legs.{leg}
-use Rattle.circuit.proofs.ColumnLaws.{gapRow, gap-is, gap-in, gap-beyond, gaps-rows}
+use Rattle.bitset.proofs.MachineLaws.{full-without}
+use Rattle.circuit.proofs.ColumnLaws.{gapRow, gap-in, gap-beyond, gaps-rows}
 use Rattle.circuit.proofs.table.complements.Statement.{statement}
 use Rattle.circuit.proofs.table.complements.Tie as tie
 
@@ -52,7 +53,7 @@ loop-again c =
     let n = s .args .n in
     let words = s .args .words .now in
     let d = c .difference in
-    (omega arith, changed-more (d .result) (v .inv .1) (omega arith) (gap-in n words (v .i) (d .result) (omega arith) (gap-is n (getD words (v .i) 0) (f .full .result) (d .result) (s .pre) (f .full .ensures) (d .ensures))))
+    (omega arith, changed-more (d .result) (v .inv .1) (omega arith) (gap-in n words (v .i) (d .result) (omega arith) (full-without (s .pre) (getD words (v .i) 0) (f .full .result) (d .result) (f .full .ensures) (d .ensures))))
 
 returns : tie.Need-returns Inv-loop μ-loop
 returns c =

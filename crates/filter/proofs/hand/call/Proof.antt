@@ -5,6 +5,7 @@ use mathlib.Core.Bool.{false}
 use lib.ListN.{length}
 use Rattle.circuit.specs.declared.state.Work.{Work}
 use Rattle.circuit.specs.State.{rowsOf, bad, Good}
+use Rattle.circuit.specs.Round.{All}
 use Rattle.circuit.specs.Verdict.{Sound}
 use Rattle.circuit.proofs.StateLaws.{good, stray-row}
 use Rattle.filter.specs.declared.rule.Rule.{Rule}
@@ -44,7 +45,7 @@ record Sure (w : Work) (r : Rule) : Type 0 where
   not-bad : bad w ≡ false
   not-stray : straySeed (w .n) r ≡ false
   state : Good w
-  sound : Sound (w .n) (rowsOf w) (verdict w r)
+  sound : Sound All (w .n) (rowsOf w) (verdict w r)
 
 not-bad-at : (c : tie.Else1) → bad (given c .args .work) ≡ false
 not-bad-at c = sym (asked-bad c .is-bad .ensures) ∙ c .if1 .left

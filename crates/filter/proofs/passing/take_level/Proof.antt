@@ -18,12 +18,12 @@ returns c =
 strike-requires : tie.Need-strike-requires
 strike-requires c κs =
     let s = c .before .before .before in
-    (s .pre .0, s .pre .1, s .pre .2 .clean, s .pre .2 .len, s .pre .2 .columns)
+    (s .pre .0, s .pre .1, s .pre .2)
 
 returns-2 : tie.Need-returns-2
 returns-2 c =
     let s = c .before .before .before .before in
-    level-taken (s .args .n) (s .args .limit) (s .args .s) _ _ (s .pre .1) (s .pre .2) (s .pre .0) (omega arith) _ _ _ (c .strike .ensures)
+    level-taken (s .args .n) (s .args .limit) (s .args .s) _ _ (s .pre .1) (s .pre .2) (omega arith) (c .strike .ensures)
 
 pub take-level-spec : {M : Type 1} → statement M
 take-level-spec = tie.close (tie.spec cast-if1 returns strike-requires returns-2)

@@ -10,12 +10,12 @@ use Rattle.bitset.specs.Sets.{has}
 use Rattle.bitset.proofs.LeastLaws.{trailing-least, ones-clear}
 use Rattle.separator.specs.Level.{marked}
 use Rattle.separator.proofs.MarkingLaws.{marked-pair}
-use Rattle.separator.proofs.EndsLaws.{heads-is, Walked, walk-start, walk-turn, walk-end}
+use Rattle.separator.proofs.EndsLaws.{heads-is, Gathering, gather-start, gather-turn, gather-end}
 use Rattle.separator.proofs.level.ends_of.Statement.{statement}
 use Rattle.separator.proofs.level.ends_of.Tie as tie
 
 abbrev Inv-loop : tie.InvT-loop
-Inv-loop rows s parts m last rest₀ tails₀ heads₀ rest tails heads = Walked (λ i j. marked 64 rows s parts i j m) s rest tails heads
+Inv-loop rows s parts m last rest₀ tails₀ heads₀ rest tails heads = Gathering (λ i j. marked 64 rows s parts i j m) s rest tails heads
 
 abbrev μ-loop : tie.MeasureT-loop
 μ-loop rows s parts m last rest₀ tails₀ heads₀ rest tails heads = ones rest
@@ -33,7 +33,7 @@ last-stations-requires : tie.Need-last-stations-requires Inv-loop μ-loop
 last-stations-requires c κs = search needs
 
 loop-holds : tie.Need-loop-holds Inv-loop μ-loop
-loop-holds c = walk-start _ (c .before .args .s) (c .before .fits .s .fits)
+loop-holds c = gather-start _ (c .before .args .s) (c .before .fits .s .fits)
 
 cast-i : tie.Need-cast-i Inv-loop μ-loop
 cast-i c = omega (arith, low c)
@@ -58,14 +58,14 @@ loop-again c =
     let turn = c .before .before in
     let l = turn .before .loop in
     let a = turn .before .before .before .args in
-    walk-turn _ _ _ (c .insert-if .result) (l .inv) (omega arith)
+    gather-turn _ _ _ (c .insert-if .result) (l .inv) (omega arith)
     (heads-is (a .rows .now) (a .s) (a .parts .now) (trailingZeros 64 (l .rest)) (a .m) (c .before .reached .result) (low turn) (member turn) (c .before .reached .ensures))
     (c .insert-if .ensures)
 
 returns : tie.Need-returns Inv-loop μ-loop
 returns c =
     let a = c .before .before .before .args in
-    walk-end _ (a .s) (λ i j e. marked-pair 64 (a .rows .now) (a .s) (a .parts .now) i j (a .m) e .0) (c .before .loop .inv) (omega arith)
+    gather-end _ (a .s) (λ i j e. marked-pair 64 (a .rows .now) (a .s) (a .parts .now) i j (a .m) e .0) (c .before .loop .inv) (omega arith)
 
 pub ends-of-spec : {M : Type 1} → statement M
 ends-of-spec =

@@ -14,11 +14,11 @@ use Rattle.bitset.specs.Sets.{has}
 use Rattle.bitset.proofs.BoolLaws.{or-l}
 use Rattle.bitset.proofs.HasLaws.{has-or}
 use Rattle.bitset.proofs.SetLaws.{has-self}
-use Rattle.bitset.proofs.OnesLaws.{ones-pos}
+use Rattle.bitset.proofs.OnesLaws.{ones-pos, ones-join}
 use Rattle.bitset.proofs.MachineLaws.{shl-one}
 use Rattle.circuit.specs.Legs.{neighbours}
 use Rattle.separator.specs.inner.Reach.{Linked}
-use Rattle.separator.proofs.WidthLaws.{ones-join, fresh-lt, fresh-has}
+use Rattle.separator.proofs.NeighbourLaws.{fresh-lt, fresh-has}
 use Rattle.separator.proofs.GrowLaws.{Growing, growing-start, growing-turn, growing-end}
 use Rattle.separator.proofs.reach.component.Statement.{statement}
 use Rattle.separator.proofs.reach.component.Tie as tie
@@ -49,7 +49,7 @@ loop-less : tie.Need-loop-less Inv-loop μ-loop
 loop-less c =
     let l = c .before .before .loop in
     let x : ℕ = bitAnd (c .neighbourhood .result) (c .before .before .before .args .room) in
-    omega (arith, ones-join (l .seen) x (l .inv .0), ones-pos (l .last) (omega arith), ones-le 64 (l .seen) (l .inv .0))
+    omega (arith, ones-join 64 (l .seen) x (l .inv .0), ones-pos (l .last) (omega arith), ones-le 64 (l .seen) (l .inv .0))
 
 loop-again : tie.Need-loop-again Inv-loop μ-loop
 loop-again c =

@@ -10,14 +10,14 @@ use lib.Count.{ones, ones-le, trailingZeros}
 use lib.ListN.{length, length-set}
 use Rattle.bitset.specs.inner.Members.{Least}
 use Rattle.bitset.specs.Sets.{has}
+use Rattle.bitset.proofs.HasLaws.{member-below}
 use Rattle.bitset.proofs.SetLaws.{setOf-lt}
-use Rattle.bitset.proofs.OnesLaws.{ones-pos}
+use Rattle.bitset.proofs.OnesLaws.{ones-pos, ones-less}
 use Rattle.bitset.proofs.LeastLaws.{trailing-least}
 use Rattle.circuit.specs.Legs.{neighbours}
 use Rattle.separator.specs.Components.{componentsFrom, components}
 use Rattle.separator.specs.inner.Reach.{Linked, Listed}
-use Rattle.separator.proofs.WidthLaws.{member-below}
-use Rattle.separator.proofs.PartLaws.{ones-less, Listing, listing-start, listing-turn, listing-end}
+use Rattle.separator.proofs.PartLaws.{Listing, listing-start, listing-turn, listing-end}
 use Rattle.separator.proofs.reach.components_of.Statement.{statement}
 use Rattle.separator.proofs.reach.components_of.Tie as tie
 
@@ -64,7 +64,7 @@ less : (c : tie.After-component Inv-loop μ-loop)
 less c =
     let l = c .before .before .loop in
     let z = low (c .before) in
-    ones-less (l .rest) (c .component .result) (trailingZeros 64 (l .rest)) (l .inv .1) (c .component .ok) (z .below) (z .member)
+    ones-less 64 (l .rest) (c .component .result) (trailingZeros 64 (l .rest)) (l .inv .1) (c .component .ok) (z .below) (z .member)
     (c .component .ensures .0)
 
 loop-less : tie.Need-loop-less Inv-loop μ-loop

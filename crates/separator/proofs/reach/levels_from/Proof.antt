@@ -10,19 +10,19 @@ use lib.Bits.{bitAnd, and-le-l, or-lt}
 use lib.Count.{ones, ones-le}
 use lib.ListN.{length, replicate, length-set}
 use lib.Pow.{pow-lt}
-use Rattle.bitset.proofs.OnesLaws.{ones-pos}
-use Rattle.bitset.proofs.MachineLaws.{shl-one}
+use Rattle.bitset.proofs.OnesLaws.{ones-pos, ones-join}
+use Rattle.bitset.proofs.MachineLaws.{shl-one, minus-of}
 use Rattle.separator.specs.Levels.{neighbourhood}
 use Rattle.separator.specs.inner.Reach.{Linked}
-use Rattle.separator.proofs.WidthLaws.{minus-of, neighbourhood-lt, ones-join}
-use Rattle.separator.proofs.LevelsLaws.{Found, found-start, found-turn, found-end}
+use Rattle.separator.proofs.NeighbourLaws.{neighbourhood-lt}
+use Rattle.separator.proofs.LevelsLaws.{Finding, finding-start, finding-turn, finding-end}
 use Rattle.separator.proofs.reach.levels_from.Statement.{statement}
 use Rattle.separator.proofs.reach.levels_from.Tie as tie
 
 abbrev Inv : List ℕ → ℕ → List ℕ → ℕ → ℕ → ℕ → Type 0
 Inv nbr seed level count seen last =
     (length level ≡ 64) × (seen < 2 ^ 64) × (count + ones last ≤ ones seen)
-    × ((n : ℕ) (t : List ℕ) → Linked n t nbr → seed < n → Found n t seed level count seen last)
+    × ((n : ℕ) (t : List ℕ) → Linked n t nbr → seed < n → Finding n t seed level count seen last)
 
 abbrev Inv-loop : tie.InvT-loop
 Inv-loop nbr seed level₀ count₀ seen₀ last₀ level count seen last = Inv nbr seed level count seen last
@@ -43,7 +43,7 @@ loop-holds : tie.Need-loop-holds Inv-loop μ-loop
 loop-holds c =
     let seed : ℕ = c .args .seed in
     subst (λ (x : ℕ). Inv (now (c .args .nbr)) seed (replicate 64 0) 0 x x) (sym (shl-one 64 seed (c .pre)))
-    (refl, pow-lt (c .pre), omega arith, λ n t d h. found-start n t seed h)
+    (refl, pow-lt (c .pre), omega arith, λ n t d h. finding-start n t seed h)
 
 mul-level : tie.Need-mul-level Inv-loop μ-loop
 mul-level c = omega (arith, free c)
@@ -68,18 +68,18 @@ loop-again c =
     let more = ones-pos (l .last) (omega arith) in (
       length-set (l .level) (l .count) _ ∙ l .inv .0,
       or-lt 64 (l .seen) v (l .inv .1) (omega (arith, and-le-l r ((2 ^ 64 - 1) - l .seen), c .neighbourhood .ok)),
-      omega (arith, ones-join (l .seen) r (l .inv .1), more, l .inv .2),
+      omega (arith, ones-join 64 (l .seen) r (l .inv .1), more, l .inv .2),
       λ n t d h.
           let g = l .inv .3 n t d h in
-          found-turn g v (omega arith) (omega (arith, ones-le n (l .seen) (g .below), l .inv .2, more)) (d .most)
+          finding-turn g v (omega arith) (omega (arith, ones-le n (l .seen) (g .below), l .inv .2, more)) (d .most)
           (ap (λ (x : ℕ). bitAnd x ((2 ^ 64 - 1) - l .seen)) (c .neighbourhood .ensures n t d (g .small))
-          ∙ minus-of (neighbourhood n t (l .last)) (l .seen) (d .most) (neighbourhood-lt n t (l .last)) (l .inv .1)),
+          ∙ minus-of (d .most) (neighbourhood n t (l .last)) (l .seen) (neighbourhood-lt n t (l .last)) (l .inv .1)),
     )
 
 returns : tie.Need-returns Inv-loop μ-loop
 returns c =
     let l = c .before .loop in
-    λ n t d h. found-end (l .inv .3 n t d h) (c .loop-test .left) (omega (arith, ones-le 64 (l .seen) (l .inv .1), l .inv .2))
+    λ n t d h. finding-end (l .inv .3 n t d h) (c .loop-test .left) (omega (arith, ones-le 64 (l .seen) (l .inv .1), l .inv .2))
 
 pub levels-from-spec : {M : Type 1} → statement M
 levels-from-spec =

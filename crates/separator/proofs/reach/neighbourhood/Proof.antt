@@ -4,7 +4,7 @@ use mathlib.Core.Path.{ap, _∙_}
 use Prim.Native.Nat.{ℕ}
 use Rattle.bitset.specs.Sets.{has}
 use Rattle.bitset.proofs.SetLaws.{has-setOf}
-use Rattle.separator.proofs.WidthLaws.{hit, neighbourhood-of}
+use Rattle.separator.proofs.NeighbourLaws.{hit, neighbourhood-of}
 use Rattle.separator.proofs.reach.neighbourhood.Statement.{statement}
 use Rattle.separator.proofs.reach.neighbourhood.Tie as tie
 

@@ -15,7 +15,7 @@ use Rattle.bitset.specs.Upto.{row}
 use Rattle.bitset.proofs.BoolLaws.{cond-true, cond-false}
 use Rattle.bitset.proofs.UptoLaws.{Changed, changed-none, changed-more, changed-end, getD-upto}
 use Rattle.circuit.specs.Legs.{col, neighbours, tableOf}
-use Rattle.separator.proofs.WidthLaws.{neighbours-of}
+use Rattle.separator.proofs.NeighbourLaws.{neighbours-of}
 use Rattle.separator.proofs.reach.neighbours.Statement.{statement}
 use Rattle.separator.proofs.reach.neighbours.Tie as tie
 

@@ -1,59 +1,22 @@
--- Sets of the n stations inside words of 64 bits: what the code's operations are among the n stations. Assumes nothing.
-use mathlib.Core.Path.{_≡_, refl, sym, ap, _∙_, subst}
-use mathlib.Core.Logic.{⊎-elim}
-use mathlib.Core.Bool.{Bool, true, false, not, _&&_, _||_}
+-- The neighbours of stations and of sets of stations, as the code finds them: words of 64 bits, of which the n stations take the lower. Assumes nothing.
+use mathlib.Core.Path.{_≡_, sym, ap, _∙_}
+use mathlib.Core.Bool.{Bool, true, not, _&&_, _||_}
 use mathlib.Core.List.{List}
-use Prim.Native.Nat.{ℕ, _+_, _-_, _^_, _≤_, _<_}
+use Prim.Native.Nat.{ℕ, _-_, _^_, _≤_, _<_}
 use native.Mathlib.Nat.{lt-of-lt-of-le}
 use native.Mathlib.Omega.{arith}
 use lib.Bits.{bitAnd, bitOr, and-le-l, or-lt}
-use lib.Count.{ones}
-use lib.Dec.{ltb}
-use lib.Pow.{pow-mono, ones-lt}
-use borrow.Author.Tests.{lt-ltb}
-use Rattle.bitset.specs.Sets.{has, any, setOf, minus}
-use Rattle.bitset.proofs.BoolLaws.{iff, not-both, and-intro, and-l, and-r, taut2}
-use Rattle.bitset.proofs.QuantLaws.{below?, any-intro, any-elim}
-use Rattle.bitset.proofs.HasLaws.{has-and, has-or, has-above, ext}
-use Rattle.bitset.proofs.SetLaws.{setOf-lt, has-setOf, setOf-elim, eq-setOf, has-diff, none-zero}
-use Rattle.bitset.proofs.OnesLaws.{ones-disjoint}
-use Rattle.bitset.proofs.MachineLaws.{full-setOf}
+use Rattle.bitset.specs.Sets.{has, any, setOf}
+use Rattle.bitset.proofs.BoolLaws.{iff, and-intro, and-l, and-r}
+use Rattle.bitset.proofs.QuantLaws.{any-intro, any-elim}
+use Rattle.bitset.proofs.HasLaws.{has-and, has-or, member-below, ext}
+use Rattle.bitset.proofs.SetLaws.{setOf-lt, has-setOf, setOf-elim, eq-setOf, has-diff}
+use Rattle.bitset.proofs.MachineLaws.{wide}
 use Rattle.bitset.specs.Upto.{row}
 use Rattle.circuit.specs.Legs.{leg, col, neighbours}
 use Rattle.circuit.proofs.LegsLaws.{row-in}
 use Rattle.separator.specs.Levels.{neighbourhood}
 use Rattle.separator.specs.inner.Reach.{Linked}
-
-pub wide : {n w : ℕ} → n ≤ 64 → w < 2 ^ n → w < 2 ^ 64
-wide l h = lt-of-lt-of-le h (pow-mono l)
-
-pub member-below : (n w k : ℕ) → w < 2 ^ n → has w k ≡ true → k < n
-member-below n w k h e = ⊎-elim (λ l. l) (λ l. absurd (not-both e (has-above n w k h l))) (below? k n)
-
--- `v & !w`
-pub minus-of : {n : ℕ} (v w : ℕ) → n ≤ 64 → v < 2 ^ n → w < 2 ^ 64 → bitAnd v ((2 ^ 64 - 1) - w) ≡ minus n v w
-unfolding minus
-minus-of {n} v w l hv hw =
-    eq-setOf n (bitAnd v ((2 ^ 64 - 1) - w)) _ (omega (arith, and-le-l v ((2 ^ 64 - 1) - w))) (λ k d. has-diff 64 v w k hw (omega arith))
-
--- `full(n) & !s`: the stations outside s
-pub outside-of : (n full s : ℕ) → n ≤ 64 → full ≡ setOf 64 (λ j. ltb j n) → s < 2 ^ 64 → bitAnd full ((2 ^ 64 - 1) - s) ≡ setOf n (λ k. not (has s k))
-outside-of n full s top e h =
-    eq-setOf n (bitAnd full ((2 ^ 64 - 1) - s)) (λ k. not (has s k)) (omega (arith, and-le-l full ((2 ^ 64 - 1) - s), size))
-    (λ k l. has-diff 64 full s k h (omega arith)
-    ∙ ap (λ (b : Bool). b && not (has s k)) (ap (λ (w : ℕ). has w k) e ∙ has-setOf 64 (λ j. ltb j n) k (omega arith) ∙ lt-ltb k n l))
-  where
-    size : full < 2 ^ n
-    size = subst (λ (w : ℕ). w < 2 ^ n) (full-setOf 64 n top ∙ sym e) (ones-lt n)
-
--- `a | (x & !a)` has the members of both
-pub ones-join : (a x : ℕ) → a < 2 ^ 64 → ones (bitOr a (bitAnd x ((2 ^ 64 - 1) - a))) ≡ ones a + ones (bitAnd x ((2 ^ 64 - 1) - a))
-ones-join a x ha =
-    let y : ℕ = bitAnd x ((2 ^ 64 - 1) - a) in
-    ones-disjoint a y
-    (none-zero 64 (bitAnd a y) (omega (arith, and-le-l a y))
-    (λ k l. has-and a y k ∙ ap (λ (b : Bool). has a k && b) (has-diff 64 x a k ha l)
-    ∙ taut2 (λ p q. p && (q && not p)) (λ p q. false) refl (has a k) (has x k)))
 
 -- ---- neighbours
 
@@ -65,7 +28,7 @@ neighbours-of n i t h =
     eq-setOf n (bitOr (row t i) c) (λ j. has (row t i) j || has (row t j) i) (or-lt n (row t i) c h (setOf-lt n (λ j. has (row t j) i)))
     (λ j l. has-or (row t i) c j ∙ ap (λ (b : Bool). has (row t i) j || b) (has-setOf n (λ j. has (row t j) i) j l))
 
-pub linked-word : {n : ℕ} {t nbr : List ℕ} → Linked n t nbr → (i : ℕ) → i < n → row nbr i ≡ setOf n (neighbours t i)
+linked-word : {n : ℕ} {t nbr : List ℕ} → Linked n t nbr → (i : ℕ) → i < n → row nbr i ≡ setOf n (neighbours t i)
 linked-word {n} {t} {nbr} d i l = ap (λ (x : List ℕ). row x i) (d .table) ∙ row-in n (neighbours t) i (d .most) l
 
 -- some station of w leads to j by the relation R
