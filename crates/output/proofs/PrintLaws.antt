@@ -1,31 +1,35 @@
 -- The texts as the writers put them together, and the two ways out of a print. Assumes nothing.
-use mathlib.Core.Path.{_≡_, sym, _∙_, subst}
+use mathlib.Core.Path.{_≡_, sym, ap, _∙_, subst}
 use mathlib.Core.Logic.{⊎-elim}
 use mathlib.Core.Bool.{true, false}
 use mathlib.Core.List.{List, _++_, append-assoc}
 use Prim.Native.Nat.{ℕ, _≤_, _<_, zero-le}
 use native.Mathlib.Omega.{arith}
 use lib.ListN.{length}
+use lib.Count.{ones}
 use borrow.Author.Tests.{eq-eqb, ne-eqb}
 use Rattle.bitset.proofs.BoolLaws.{cases, cond-true, cond-false, cond-elim}
+use Rattle.bitset.specs.Sets.{sum}
+use Rattle.bitset.specs.Upto.{row}
 use Rattle.writer.specs.Text.{ascii, decimal}
-use Rattle.writer.specs.Lent.{short, written}
+use Rattle.writer.specs.Lent.{written}
 use Rattle.writer.specs.inner.Writer.{Wrote}
-use Rattle.writer.proofs.LentLaws.{is-short, has-room, room, written-short, written-room, written-length}
+use Rattle.writer.proofs.LentLaws.{is-short, has-room, written-short, written-room}
 use Rattle.circuit.specs.declared.state.Work.{Work}
 use Rattle.circuit.specs.declared.card.Answer.the-variants.{Taken}
-use Rattle.sheet.specs.declared.Opened.{Opened}
-use Rattle.filter.specs.declared.cycle.Ran.{Ran}
-use Rattle.output.specs.declared.Printed.{Printed}
 use Rattle.circuit.specs.Card.{number, card, word}
-use Rattle.circuit.specs.Round.{All}
 use Rattle.circuit.specs.State.{isNone, rowsOf, Good}
 use Rattle.circuit.proofs.CardLaws.{number-one}
+use Rattle.circuit.proofs.StateLaws.{legs-ones}
+use Rattle.circuit.specs.Round.{All}
+use Rattle.sheet.specs.declared.Opened.{Opened}
 use Rattle.sheet.specs.Open.{openCall}
 use Rattle.sheet.proofs.GrammarLaws.{opened-good}
+use Rattle.filter.specs.declared.cycle.Ran.{Ran}
 use Rattle.filter.specs.Calls.{runCall}
 use Rattle.filter.proofs.CallLaws.{runCall-leads}
 use Rattle.report.specs.Lines.{linesFrom, text}
+use Rattle.output.specs.declared.Printed.{Printed}
 use Rattle.output.specs.Program.{openedLine, ranLine, stationLines, takenText, refusedLine, openedText, printed}
 use Rattle.output.specs.inner.Prints.{Prints, shown}
 
@@ -44,17 +48,22 @@ module _ (text d : List ℕ) where
   unfolding printed
   taken e r l h = record { result = rw (has-room text d l, h .count); bytes = h .bytes ∙ sym (written-room text d l) }
 
-  -- what was printed lies within the buffer
-  pub printed-within : printed text d .len ≤ length (written text d)
+  -- where there is room, a print is a writer
+  pub prints-wrote : (e : List ℕ) (r : Printed) → length text ≤ length d → r ≡ printed text d → e ≡ written text d → Wrote text d e (r .len)
   unfolding printed
-  printed-within =
-      cond-elim (λ (r : Printed). r .len ≤ length (written text d)) (short text d) (record { answer = card 10; len = 0 }) (record { answer = card 0; len = length text }) (λ _. zero-le)
-      (λ e. omega (arith, written-length text d, room text d e))
+  prints-wrote e r l p q = record { count = ap (λ (x : Printed). x .len) p ∙ rw (has-room text d l); bytes = q ∙ written-room text d l }
 
 -- ---- the text
 
 regroup : (x a b c : List ℕ) → x ++ (a ++ b ++ c) ≡ x ++ a ++ b ++ c
 regroup x a b c = simp append-assoc
+
+-- line 1: the legs by the bits that are set
+pub opened-line : (w : Work) → Good w → (k : ℕ) → k ≡ sum 64 (λ i. ones (row (rowsOf w) i))
+    → ascii "stations " ++ decimal (w .n) ++ ascii " legs " ++ decimal k ++ ascii "\n" ≡ openedLine w
+unfolding openedLine
+opened-line w g k e =
+    ap (λ (x : ℕ). ascii "stations " ++ decimal (w .n) ++ ascii " legs " ++ decimal x ++ ascii "\n") (e ∙ sym (legs-ones (w .n) (rowsOf w) (g .most) (g .table)))
 
 -- line 2: the two numbers, and the end
 pub ran-line : (r : Ran)

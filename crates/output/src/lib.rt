@@ -75,13 +75,9 @@ fn put_ran(buf: &mut [u8], ran: Ran) -> usize
     requires { ⌜ 67 ≤ length (now buf) ⌝ }
     ensures { λ r. ⌜ Wrote (ranLine ran) (now (buf .entry)) (now (buf .exit)) r × (r ≤ 67) ⌝ }
 {
-    let at = put_fields(
-        buf,
-        b"steps ",
-        ran.steps as u64,
-        b" removed ",
-        ran.removed as u64,
-    );
+    let steps = ran.steps as u64;
+    let removed = ran.removed as u64;
+    let at = put_fields(buf, b"steps ", steps, b" removed ", removed);
     let work = ran.work;
     let end = work.end;
     at + put_end(&mut buf[at..], end)

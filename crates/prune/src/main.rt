@@ -4,11 +4,14 @@ use libc::STDIN_FILENO;
 use libc::STDOUT_FILENO;
 ghost use Prim.Native.Nat.{_≤_};
 ghost use lib.ListN.{length};
+ghost use Rattle.writer.specs.inner.Writer.{Wrote};
+ghost use Rattle.output.specs.Program.{programText};
+ghost use Rattle.output.specs.Sizes.{programMost};
 
 // The first 1,154 bytes decide the text (`first-bytes-print`).
 const SHEET: usize = 1154;
 
-// No text is longer (`program-most`).
+// No text is longer (`programMost`).
 const TEXT: usize = 11835;
 
 // What reading brought: so many bytes; whether to read on; whether it failed.
@@ -65,6 +68,14 @@ fn read_sheet(buf: &mut [u8]) -> Got
     }
 }
 
+// The program's text for the sheet, into a buffer that has room for every text.
+fn put_program(buf: &mut [u8], sheet: &[u8]) -> usize
+    requires { ⌜ programMost ≤ length (now buf) ⌝ }
+    ensures { λ r. ⌜ Wrote (programText (now (sheet .entry))) (now (buf .entry)) (now (buf .exit)) r × (r ≤ programMost) ⌝ }
+{
+    output::print(sheet, buf).len
+}
+
 fn main() {
     let mut sheet = [0u8; SHEET];
     let read = read_sheet(&mut sheet);
@@ -74,8 +85,7 @@ fn main() {
     }
     let len = read.len;
     let mut text = [0u8; TEXT];
-    let printed = output::print(&sheet[..len], &mut text);
-    let len = printed.len;
+    let len = put_program(&mut text, &sheet[..len]);
     if !io::write_all(STDOUT_FILENO, &text[..len]) {
         io::write_all(STDERR_FILENO, b"prune: cannot write standard output\n");
     }

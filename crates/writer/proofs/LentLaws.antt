@@ -18,7 +18,7 @@ module _ (text buffer : List ℕ) where
   unfolding short
   has-room l = le-ltb (length buffer) (length text) l
 
-  pub room : short text buffer ≡ false → length text ≤ length buffer
+  room : short text buffer ≡ false → length text ≤ length buffer
   unfolding short
   room e = ltb-false (length buffer) (length text) e
 

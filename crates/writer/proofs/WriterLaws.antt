@@ -19,6 +19,9 @@ wrote-length {t} {d} {e} {r} h room = ap length (h .bytes) ∙ omega (arith, len
 pub wrote-front : {t d e : List ℕ} {r : ℕ} → Wrote t d e r → take r e ≡ t
 wrote-front {t} {d} {e} {r} h = ap (take r) (h .bytes) ∙ take-at t (drop (length t) d) r (sym (h .count))
 
+pub wrote-part : {t d e : List ℕ} {r : ℕ} → Wrote t d e r → r ≡ length (take r e)
+wrote-part h = h .count ∙ ap length (sym (wrote-front h))
+
 -- Lent `&mut buf[r..]`, whose bytes are `take (length e - r) (drop r e)`, the second writer leaves ys there; the buffer is then
 -- `take r e ++ (ys ++ drop (length e - r) (drop r e))`.
 pub wrote-then : {t u d e ys : List ℕ} {r s : ℕ} → Wrote t d e r → Wrote u (take (length e - r) (drop r e)) ys s

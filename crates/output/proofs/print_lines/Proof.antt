@@ -3,11 +3,10 @@ use borrow.Author.Needs.{needs}
 use mathlib.Core.Path.{_≡_}
 use mathlib.Core.List.{_++_}
 use Prim.Native.Nat.{_+_}
-use lib.ListN.{length}
-use Rattle.report.specs.Lines.{linesFrom}
 use native.Mathlib.Omega.{arith}
-use lib.ListN.{length-append}
+use lib.ListN.{length, length-append}
 use Rattle.writer.proofs.WriterLaws.{wrote-then}
+use Rattle.report.specs.Lines.{linesFrom}
 use Rattle.output.proofs.PrintLaws.{no-room, taken}
 use Rattle.output.proofs.print_lines.Statement.{statement}
 use Rattle.output.proofs.print_lines.Tie as tie
@@ -23,7 +22,7 @@ add-if1 : tie.Need-add-if1
 add-if1 c = search needs
 
 returns : tie.Need-returns
-returns c = no-room _ _ (let size = size (c .before .before .before .before) in omega arith)
+returns c = let size = size (c .before .before .before .before) in no-room _ _ (omega arith)
 
 put-text-requires : tie.Need-put-text-requires
 put-text-requires c κs = search needs
@@ -47,7 +46,10 @@ same-length : tie.Need-same-length
 same-length c = search needs
 
 returns-2 : tie.Need-returns-2
-returns-2 c = taken _ _ _ _ (let size = size (c .before .before .before .before .before .before .before .before .before .before .before .before) in omega arith) (wrote-then (c .before .before .before .before .before .before .put-text .ensures) (c .before .before .put-lines .ensures))
+returns-2 c =
+    let head = c .before .before .before .before .before .before in
+    let size = size (head .before .before .before .before .before .before) in
+    taken _ _ _ _ (omega arith) (wrote-then (head .put-text .ensures) (c .before .before .put-lines .ensures))
 
 pub print-lines-spec : {M : Type 1} → statement M
 print-lines-spec =

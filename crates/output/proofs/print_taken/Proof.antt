@@ -1,11 +1,10 @@
 -- `output::print_taken` meets its contract. Assumes nothing.
 use borrow.Author.Needs.{needs}
-use mathlib.Core.Path.{sym, ap, ap₂, _∙_}
+use mathlib.Core.Path.{ap, ap₂, _∙_}
 use mathlib.Core.List.{_++_}
 use Prim.Native.Nat.{ℕ}
 use native.Mathlib.Omega.{arith}
-use lib.ListN.{length}
-use Rattle.writer.proofs.WriterLaws.{wrote-front}
+use Rattle.writer.proofs.WriterLaws.{wrote-front, wrote-part}
 use Rattle.circuit.specs.State.{rowsOf}
 use Rattle.filter.specs.declared.cycle.Ran.{Ran}
 use Rattle.report.specs.Lines.{linesFrom}
@@ -27,9 +26,7 @@ array-share-prefix-head : tie.Need-array-share-prefix-head
 array-share-prefix-head c = search needs
 
 slice-aggregate-print-lines : tie.Need-slice-aggregate-print-lines
-slice-aggregate-print-lines c =
-    let h = c .before .before .before .before .before .put-two-lines .ensures .0 in
-    h .count ∙ ap length (sym (wrote-front h))
+slice-aggregate-print-lines c = wrote-part (c .before .before .before .before .before .put-two-lines .ensures .0)
 
 shown-requires : tie.Need-shown-requires
 shown-requires c κs = search needs
@@ -40,7 +37,7 @@ print-lines-requires c κs =
     let ran = c .before .before .before .before .before .before .before .before .before in
     let start = ran .before .before in (
       rw (c .before .shown .ensures, ran .run .ensures) (shown-most (start .args .work) 300000 (start .pre)),
-      omega (arith, ap length (wrote-front (h .0)), h .0 .count, h .1),
+      omega (arith, wrote-part (h .0)),
     )
 
 same-length : tie.Need-same-length

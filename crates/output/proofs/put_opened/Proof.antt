@@ -1,14 +1,9 @@
 -- `output::put_opened` meets its contract. Assumes nothing.
 use borrow.Author.Needs.{needs}
-use mathlib.Core.Path.{sym}
-use Rattle.circuit.specs.Legs.{legs}
-use Rattle.circuit.specs.State.{rowsOf}
-use mathlib.Core.Path.{_≡_, _∙_}
 use native.Mathlib.Omega.{arith}
 use Rattle.writer.proofs.NumberLaws.{decimal-length}
-use Rattle.writer.proofs.WriterLaws.{wrote-then}
-use Rattle.circuit.proofs.StateLaws.{legs-ones}
-use Rattle.output.specs.Program.{openedLine}
+use Rattle.writer.proofs.WriterLaws.{wrote-as, wrote-then}
+use Rattle.output.proofs.PrintLaws.{opened-line}
 use Rattle.output.proofs.put_opened.Statement.{statement}
 use Rattle.output.proofs.put_opened.Tie as tie
 
@@ -25,7 +20,10 @@ slice-aggregate-put-fields-2 : tie.Need-slice-aggregate-put-fields-2
 slice-aggregate-put-fields-2 c = search needs
 
 put-fields-requires : tie.Need-put-fields-requires
-put-fields-requires c κs = omega (arith, decimal-length 19 (c .before .before .before .before .before .before .before .before .args .work .n) (omega arith), decimal-length 19 (c .before .before .before .legs .result) (omega arith))
+put-fields-requires c κs =
+    let legs = c .before .before .before in
+    let n = decimal-length 19 (legs .before .before .before .before .before .args .work .n) (omega arith) in
+    omega (arith, decimal-length 19 (legs .legs .result) (omega arith))
 
 sub-put-byte : tie.Need-sub-put-byte
 sub-put-byte c = search needs
@@ -46,12 +44,11 @@ same-length : tie.Need-same-length
 same-length c = search needs
 
 returns : tie.Need-returns
-unfolding openedLine
 returns c =
-    let w = c .before .before .before .before .before .before .before .before .before .before .before .before .before .before .before .args .work in
-    let g = c .before .before .before .before .before .before .before .before .before .before .before .before .before .before .before .pre .0 in
-    let count : c .before .before .before .before .before .before .before .before .before .before .legs .result ≡ legs (w .n) (rowsOf w) = c .before .before .before .before .before .before .before .before .before .before .legs .ensures .0 ∙ sym (legs-ones (w .n) (rowsOf w) (g .most) (g .table)) in
-    (rw (← count) (wrote-then (c .before .before .before .before .before .before .put-fields .ensures .0) (c .before .before .put-byte .ensures)), omega arith)
+    let start = c .before .before .before .before .before .before .before .before .before .before .before .before .before .before .before in
+    let fields = c .before .before .before .before .before .before .put-fields .ensures .0 in
+    let line = opened-line (start .args .work) (start .pre .0) _ (c .before .before .before .before .before .before .before .before .before .before .legs .ensures .0) in
+    (wrote-as line (wrote-then fields (c .before .before .put-byte .ensures)), omega arith)
 
 pub put-opened-spec : {M : Type 1} → statement M
 put-opened-spec =

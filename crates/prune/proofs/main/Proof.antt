@@ -1,9 +1,9 @@
--- `prune::main` is safe: what was read and what was printed lie within their buffers. Assumes nothing.
+-- `prune::main` is safe: what was read and what is written lie within their buffers. Assumes nothing.
 use borrow.Author.Needs.{needs}
 use mathlib.Core.Path.{sym, _∙_}
 use native.Mathlib.Nat.{min-eq-left}
 use lib.ListN.{length-take}
-use Rattle.output.proofs.PrintLaws.{printed-within}
+use Rattle.writer.proofs.WriterLaws.{wrote-part}
 use Rattle.prune.proofs.main.Statement.{statement}
 use Rattle.prune.proofs.main.Tie as tie
 
@@ -22,23 +22,23 @@ write-all-requires c κs = search needs
 returns : tie.Need-returns
 returns c = search needs
 
+slice-aggregate-put-program : tie.Need-slice-aggregate-put-program
+slice-aggregate-put-program c = search needs
+
 array-share-prefix-sheet : tie.Need-array-share-prefix-sheet
 array-share-prefix-sheet c = search needs
 
-slice-aggregate-print : tie.Need-slice-aggregate-print
-slice-aggregate-print c = sym (length-take _ _ ∙ min-eq-left (c .before .before .before .read-sheet .ensures))
+slice-aggregate-put-program-2 : tie.Need-slice-aggregate-put-program-2
+slice-aggregate-put-program-2 c = sym (length-take _ _ ∙ min-eq-left (c .before .before .before .before .read-sheet .ensures))
 
-slice-aggregate-print-2 : tie.Need-slice-aggregate-print-2
-slice-aggregate-print-2 c = search needs
-
-print-requires : tie.Need-print-requires
-print-requires c κs = search needs
+put-program-requires : tie.Need-put-program-requires
+put-program-requires c κs = search needs
 
 array-share-prefix-text : tie.Need-array-share-prefix-text
-array-share-prefix-text c = let e = c .before .print .ensures in rw (e .0, e .1) (printed-within _ _)
+array-share-prefix-text c = search needs
 
 slice-aggregate-write-all-2 : tie.Need-slice-aggregate-write-all-2
-slice-aggregate-write-all-2 c = sym (length-take _ _ ∙ min-eq-left (array-share-prefix-text (c .before)))
+slice-aggregate-write-all-2 c = wrote-part (c .before .before .put-program .ensures .0)
 
 write-all-requires-2 : tie.Need-write-all-requires-2
 write-all-requires-2 c κs = search needs
@@ -64,10 +64,10 @@ main-spec =
     slice-aggregate-write-all
     write-all-requires
     returns
+    slice-aggregate-put-program
     array-share-prefix-sheet
-    slice-aggregate-print
-    slice-aggregate-print-2
-    print-requires
+    slice-aggregate-put-program-2
+    put-program-requires
     array-share-prefix-text
     slice-aggregate-write-all-2
     write-all-requires-2
