@@ -11,7 +11,8 @@ use Rattle.circuit.specs.Legs.{leg, legs, Subtable}
 use Rattle.circuit.specs.Round.{RoundOf, Drivable}
 use Rattle.circuit.specs.State.{rowsOf, blank, bad, Good}
 use Rattle.circuit.specs.Check.{checkCall, ListsRound}
-use Rattle.sheet.specs.Layout.{Entry, Page, entriesBytes, bytesOf, Each, EntryFits, WellFormed}
+use Rattle.sheet.specs.Layout.{Entry, Page, entriesBytes, bytesOf, EntryFits, WellFormed}
+use Rattle.bitset.specs.Upto.{Each}
 use Rattle.sheet.specs.Open.{refused, openedPage, openCall, TakenSheet}
 use Rattle.report.specs.Lines.{reportCall, reportBytes}
 use Rattle.filter.specs.declared.rule.Rule.{Rule}

@@ -7,7 +7,7 @@ use native.Mathlib.Omega.{arith}
 use Rattle.circuit.specs.Round.{All}
 use Rattle.circuit.specs.Verdict.{Sound}
 use Rattle.circuit.specs.State.{lastPlace}
-use Rattle.circuit.proofs.StateLaws.{inside, not-outside}
+use Rattle.bitset.proofs.OutsideLaws.{inside, not-outside}
 use Rattle.filter.specs.declared.rule.Rule.{Rule}
 use Rattle.filter.specs.declared.rule.Rule.the-variants.{Sweep, Pass}
 use Rattle.filter.specs.Rule.{says, straySeed, ruleAt}

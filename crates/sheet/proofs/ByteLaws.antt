@@ -7,7 +7,8 @@ use Prim.Native.Nat.{ℕ, zero, suc, _+_, _/_, _≤_, _<_}
 use native.Mathlib.Omega.{arith}
 use lib.ListN.{length}
 use Rattle.bitset.proofs.SetLaws.{digit-lt}
-use Rattle.sheet.specs.Layout.{Entry, bytes, present, setBytes, fixedBytes, mapOf, entryBytes, entriesBytes, Each, Bytes, FixedFits, EntryFits}
+use Rattle.sheet.specs.Layout.{Entry, bytes, present, setBytes, fixedBytes, mapOf, entryBytes, entriesBytes, Bytes, FixedFits, EntryFits}
+use Rattle.bitset.specs.Upto.{Each}
 use Rattle.sheet.proofs.ReadLaws.{length-bytes}
 
 -- ---- how many

@@ -11,8 +11,10 @@ use Rattle.bitset.proofs.BoolLaws.{not-both}
 use Rattle.bitset.proofs.HasLaws.{has-above}
 use Rattle.circuit.specs.Card.{number, card}
 use Rattle.circuit.specs.State.{Good}
-use Rattle.circuit.proofs.StateLaws.{inside, not-outside, stray-tableOf}
-use Rattle.sheet.specs.Layout.{Entry, Page, entriesBytes, bytesOf, Each, Bytes, EntryFits, WellFormed, allows, fixes, entryAt, given}
+use Rattle.bitset.proofs.OutsideLaws.{inside, not-outside}
+use Rattle.circuit.proofs.StateLaws.{stray-tableOf}
+use Rattle.sheet.specs.Layout.{Entry, Page, entriesBytes, bytesOf, Bytes, EntryFits, WellFormed, allows, fixes, entryAt, given}
+use Rattle.bitset.specs.Upto.{Each}
 use Rattle.sheet.specs.Open.{Got, got, fault, readPage, refused, openedPage, opened, openCall, TakenSheet}
 use Rattle.sheet.proofs.ReaderLaws.{record-unknown}
 use Rattle.sheet.proofs.RecordsLaws.{read-fault}

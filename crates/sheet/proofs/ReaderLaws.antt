@@ -18,7 +18,7 @@ use Rattle.bitset.proofs.BoolLaws.{iff}
 use Rattle.bitset.proofs.SetLaws.{setOf-has, setOf-full, setOf-ext, setOf-and}
 use Rattle.circuit.specs.declared.card.Answer.{Answer}
 use Rattle.circuit.specs.declared.card.Answer.the-variants.{CutSheet, UnknownBit, StrayStation}
-use Rattle.circuit.proofs.StateLaws.{inside}
+use Rattle.bitset.proofs.OutsideLaws.{inside}
 use Rattle.sheet.specs.Layout.{allows, fixes}
 use Rattle.sheet.specs.Open.{Got, fault, little, readSet, readFixed, readFields, readEntry}
 use Rattle.sheet.specs.inner.Reader.{GotAt, FaultAt, IsField, IsRecord}

@@ -17,8 +17,9 @@ use Rattle.circuit.specs.Card.{card}
 use Rattle.circuit.specs.State.{blank}
 use Rattle.circuit.specs.declared.state.Work.{Work}
 use Rattle.sheet.specs.declared.Opened.{Opened}
-use Rattle.circuit.proofs.StateLaws.{inside}
-use Rattle.sheet.specs.Layout.{Entry, Page, bytes, entryBytes, entriesBytes, bytesOf, Each, EntryFits, WellFormed}
+use Rattle.bitset.proofs.OutsideLaws.{inside}
+use Rattle.sheet.specs.Layout.{Entry, Page, bytes, entryBytes, entriesBytes, bytesOf, EntryFits, WellFormed}
+use Rattle.bitset.specs.Upto.{Each}
 use Rattle.sheet.specs.Open.{Got, got, fault, _then_, little, readSet, readFixed, readFields, readEntry, readEntries, readEnd, readRest, readPage, refused, opened, openCall, TakenSheet}
 use Rattle.sheet.specs.Sizes.{sheetMost, LongestSheet}
 use Rattle.sheet.proofs.ReadLaws.{length-bytes}

@@ -5,7 +5,7 @@ use mathlib.Core.Bool.{false}
 use native.Mathlib.Omega.{arith}
 use lib.ListN.{getD}
 use Rattle.bitset.specs.Sets.{outside}
-use Rattle.circuit.proofs.StateLaws.{inside}
+use Rattle.bitset.proofs.OutsideLaws.{inside}
 use Rattle.sheet.proofs.OpenLaws.{open-limit, open-cut, open-count, open-rest}
 use Rattle.sheet.proofs.open.Statement.{statement}
 use Rattle.sheet.proofs.open.Tie as tie

@@ -6,7 +6,7 @@ use native.Mathlib.Numerals.{sub-one}
 use native.Mathlib.Omega.{arith}
 use Rattle.bitset.specs.Sets.{has}
 use Rattle.circuit.specs.inner.Lists.{goodEntry}
-use Rattle.circuit.proofs.StateLaws.{inside}
+use Rattle.bitset.proofs.OutsideLaws.{inside}
 use Rattle.circuit.proofs.list.good_entry.Statement.{statement}
 use Rattle.circuit.proofs.list.good_entry.Tie as tie
 

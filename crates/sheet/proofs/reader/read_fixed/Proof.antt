@@ -5,7 +5,7 @@ use Prim.Native.Nat.{ℕ, _≤_}
 use native.Mathlib.Omega.{arith}
 use lib.ListN.{getD}
 use borrow.Author.Tests.{not-true, not-false}
-use Rattle.circuit.proofs.StateLaws.{inside}
+use Rattle.bitset.proofs.OutsideLaws.{inside}
 use Rattle.sheet.proofs.ReaderLaws.{fixed-absent, fixed-cut, fixed-stray, fixed-whole}
 use Rattle.sheet.proofs.reader.read_fixed.Statement.{statement}
 use Rattle.sheet.proofs.reader.read_fixed.Tie as tie

@@ -2,7 +2,7 @@
 use borrow.Author.Needs.{needs}
 use mathlib.Core.Path.{sym, _∙_}
 use Rattle.circuit.specs.State.{bad}
-use Rattle.circuit.proofs.StateLaws.{inside}
+use Rattle.bitset.proofs.OutsideLaws.{inside}
 use Rattle.circuit.proofs.state.Work.is_bad.Statement.{statement}
 use Rattle.circuit.proofs.state.Work.is_bad.Tie as tie
 
