@@ -27,7 +27,7 @@ ranLine r = ascii "steps " ++ decimal (r .steps) ++ ascii " removed " ++ decimal
 
 -- the station lines, unless the end is none
 unfoldable pub stationLines : Work → List ℕ
-stationLines w = let lines = text w in cond (isNone (w .end)) [] lines
+stationLines w = cond (isNone (w .end)) [] (text w)
 
 -- of an opened state, run with budget 300,000: two lines, and the station lines
 unfoldable pub takenText : Work → List ℕ
@@ -37,14 +37,13 @@ takenText w = let r = runCall w 300000 in openedLine w ++ ranLine r ++ stationLi
 unfoldable pub refusedLine : ℕ → ℕ → List ℕ
 refusedLine k at = ascii "refused " ++ decimal k ++ ascii " at " ++ decimal at ++ ascii "\n"
 
--- of a sheet opened with limit 64
+-- of an opening
 unfoldable pub openedText : Opened → List ℕ
 openedText o =
-    let taken = takenText (o .work) in
-    let k = number (o .answer) in
-    cond (eqb k 0) taken (refusedLine k (o .at))
+    cond (eqb (number (o .answer)) 0) (takenText (o .work))
+    (refusedLine (number (o .answer)) (o .at))
 
--- what the program prints for the bytes of a sheet
+-- what the program prints for the bytes of a sheet, opened with limit 64
 unfoldable pub programText : List ℕ → List ℕ
 programText s = openedText (openCall s 64)
 

@@ -27,10 +27,10 @@ const LIMIT: usize = 64;
 
 const BUDGET: u32 = 300000;
 
-// The lines before the station lines have fewer bytes.
+// Room for the lines before the station lines.
 const HEAD: usize = 128;
 
-// The length of the text.
+// What the call hands back: the length of the text.
 pub struct Printed {
     pub answer: Answer,
     pub len: usize,
@@ -47,6 +47,7 @@ fn put_fields(buf: &mut [u8], first: &[u8], x: u64, second: &[u8], y: u64) -> us
     last + put_number(&mut buf[last..], y)
 }
 
+// The rest of line 2: the end's word.
 fn put_end(buf: &mut [u8], end: End) -> usize
     requires { ⌜ 12 ≤ length (now buf) ⌝ }
     ensures { λ r. ⌜ Wrote (ascii " end " ++ ascii (word end) ++ ascii "\n") (now (buf .entry)) (now (buf .exit)) r × (r ≤ 12) ⌝ }
