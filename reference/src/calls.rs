@@ -6,7 +6,7 @@ use crate::list::Checked;
 use crate::run::Ran;
 use crate::sheet::Opened;
 use crate::state::WorkState;
-use crate::{fast, lines, list, pass, run, sheet, state, sweep};
+use crate::{fast, lines, list, pass, program, run, sheet, state, sweep};
 
 pub trait Calls {
     fn open(&self, sheet: &[u8], limit: u64) -> Opened;
@@ -15,6 +15,7 @@ pub trait Calls {
     fn run(&self, state: WorkState, budget: u32) -> Ran;
     fn list_check(&self, state: &WorkState, numbers: &[u8]) -> Checked;
     fn report(&self, state: &WorkState, buffer: &mut [u8]) -> Reported;
+    fn print(&self, sheet: &[u8], buffer: &mut [u8]) -> Reported;
     fn bad(&self, state: &WorkState) -> bool;
 }
 
@@ -49,6 +50,10 @@ impl Calls for Plain {
         lines::report(state, buffer)
     }
 
+    fn print(&self, sheet: &[u8], buffer: &mut [u8]) -> Reported {
+        program::print(self, sheet, buffer)
+    }
+
     fn bad(&self, state: &WorkState) -> bool {
         state::bad(state)
     }
@@ -77,6 +82,10 @@ impl Calls for Fast {
 
     fn report(&self, state: &WorkState, buffer: &mut [u8]) -> Reported {
         fast::report(state, buffer)
+    }
+
+    fn print(&self, sheet: &[u8], buffer: &mut [u8]) -> Reported {
+        program::print(self, sheet, buffer)
     }
 
     fn bad(&self, state: &WorkState) -> bool {

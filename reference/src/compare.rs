@@ -16,6 +16,7 @@ use self::made::Known;
 use self::watch::Watch;
 use crate::calls::{Calls, Fast, Plain};
 use crate::gen::Xorshift;
+use crate::program;
 use crate::state::{End, WorkState};
 
 pub use self::difference::Difference;
@@ -84,7 +85,9 @@ pub fn compare_sheet(tested: &dyn Calls, seed: u64, index: u64) -> Found<Counts>
         steps: Vec::new(),
         counts: Counts::default(),
     };
-    if session.opening()? {
+    let taken = session.opening()?;
+    session.prints()?;
+    if taken {
         session.sequence()?;
         session.state_of_no_opening()?;
     } else {
@@ -135,6 +138,29 @@ impl Session<'_> {
             return Ok(());
         }
         Err(self.difference("the sheet was made to open otherwise", answer))
+    }
+
+    /// The program's text into buffers of every length that matters. The text is
+    /// made once: most of a print is the run.
+    fn prints(&mut self) -> Found<()> {
+        let text = program::output(&Fast, &self.made.bytes);
+        let call = Call::Print { length: text.len() };
+        let with_plain = self.plain_takes_part(&call);
+        let same = !with_plain || text == program::output(&Plain, &self.made.bytes);
+        for length in draw::print_lengths(&text) {
+            let call = Call::Print { length };
+            self.steps.push(Step::Call(call.clone()));
+            let answer = self.answer_under_test(&call)?;
+            if answer != Answer::printed(&text, length) {
+                return Err(self.difference("the fast answer differs", &answer));
+            }
+            if !same {
+                return Err(self.difference("the plain answer differs", &answer));
+            }
+            self.counts.note(&answer);
+            self.counts.plain += u64::from(with_plain);
+        }
+        Ok(())
     }
 
     /// Calls in any order, the whole run, and more calls on the ended state:
@@ -241,6 +267,8 @@ impl Session<'_> {
         let chance = match (call, self.state.n) {
             (Call::Open { .. }, _) | (_, 0..=12) => 100,
             (Call::Run { .. }, 13..=24) => 50,
+            (Call::Print { .. }, 13..=24) => 15,
+            (Call::Print { .. }, 25..=64) => 2,
             (Call::Run { budget: 5.. }, 25..=64) => 5,
             (_, 13..=24) => 100,
             _ => 40,

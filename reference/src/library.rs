@@ -55,6 +55,13 @@ mod ffi {
             buf_len: usize,
             length: *mut usize,
         ) -> u32;
+        pub fn loungeegret_print(
+            sheet: *const u8,
+            sheet_len: usize,
+            buf: *mut u8,
+            buf_len: usize,
+            length: *mut usize,
+        ) -> u32;
     }
 }
 
@@ -92,6 +99,11 @@ pub mod raw {
     pub fn report(state: &[u64], buffer: &mut [u8], length: &mut usize) -> u32 {
         let (words, bytes) = (state.as_ptr(), buffer.as_mut_ptr());
         unsafe { ffi::loungeegret_report(words, state.len(), bytes, buffer.len(), length) }
+    }
+
+    pub fn print(sheet: &[u8], buffer: &mut [u8], length: &mut usize) -> u32 {
+        let (bytes, text) = (sheet.as_ptr(), buffer.as_mut_ptr());
+        unsafe { ffi::loungeegret_print(bytes, sheet.len(), text, buffer.len(), length) }
     }
 }
 
@@ -157,6 +169,15 @@ impl Calls for Library {
     fn report(&self, state: &WorkState, buffer: &mut [u8]) -> Reported {
         let mut length = usize::MAX;
         let answer = raw::report(&to_words(state), buffer, &mut length);
+        Reported {
+            number: number(answer),
+            length: length as u64,
+        }
+    }
+
+    fn print(&self, sheet: &[u8], buffer: &mut [u8]) -> Reported {
+        let mut length = usize::MAX;
+        let answer = raw::print(sheet, buffer, &mut length);
         Reported {
             number: number(answer),
             length: length as u64,

@@ -18,7 +18,11 @@ pub fn report(state: &WorkState, buffer: &mut [u8]) -> Reported {
             length: 0,
         };
     }
-    let text = station_lines(&state.table());
+    write_text(&station_lines(&state.table()), buffer)
+}
+
+/// Writes a text to the start of the buffer, or nothing where it has no room.
+pub fn write_text(text: &str, buffer: &mut [u8]) -> Reported {
     if buffer.len() < text.len() {
         return Reported {
             number: card::NO_ROOM,

@@ -1,8 +1,9 @@
-//! What the program prints for a sheet.
+//! What the program prints for a sheet, and the call that writes it into a lent
+//! buffer.
 
 use crate::calls::Calls;
 use crate::card;
-use crate::lines::station_lines;
+use crate::lines::{station_lines, write_text, Reported};
 use crate::state::End;
 
 pub const LIMIT: u64 = 64;
@@ -10,6 +11,14 @@ pub const BUDGET: u32 = 300_000;
 
 /// One byte more than the longest sheet: enough to see an overhang.
 pub const BYTES_READ: u64 = 1_154;
+
+/// Room for every text.
+pub const PRINT_MOST: usize = 11_835;
+
+/// Writes the text to the start of the buffer, also that of a refused sheet.
+pub fn print(calls: &dyn Calls, sheet: &[u8], buffer: &mut [u8]) -> Reported {
+    write_text(&output(calls, sheet), buffer)
+}
 
 pub fn output(calls: &dyn Calls, sheet: &[u8]) -> String {
     let opened = calls.open(sheet, LIMIT);

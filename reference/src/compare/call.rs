@@ -5,7 +5,7 @@ use std::fmt;
 use crate::calls::Calls;
 use crate::card::Number;
 use crate::hand::Handled;
-use crate::lines::Reported;
+use crate::lines::{write_text, Reported};
 use crate::list::Checked;
 use crate::run::Ran;
 use crate::sheet::Opened;
@@ -19,6 +19,7 @@ pub enum Call {
     Run { budget: u32 },
     List { numbers: Vec<u8> },
     Report { length: usize },
+    Print { length: usize },
 }
 
 /// All that a call hands back or writes.
@@ -32,7 +33,7 @@ pub enum Answer {
 }
 
 impl Call {
-    /// Makes the call on a state; an opening takes the sheet instead.
+    /// Makes the call on a state; an opening and a print take the sheet instead.
     pub fn make(&self, calls: &dyn Calls, sheet: &[u8], state: &WorkState) -> Answer {
         match self {
             Call::Open { limit } => Answer::Opened(calls.open(sheet, *limit)),
@@ -45,6 +46,11 @@ impl Call {
                 let reported = calls.report(state, &mut buffer);
                 Answer::Reported(reported, buffer)
             }
+            Call::Print { length } => {
+                let mut buffer = filled_buffer(*length);
+                let printed = calls.print(sheet, &mut buffer);
+                Answer::Reported(printed, buffer)
+            }
         }
     }
 }
@@ -55,6 +61,13 @@ fn filled_buffer(length: usize) -> Vec<u8> {
 }
 
 impl Answer {
+    /// What a print of this text answers.
+    pub fn printed(text: &str, length: usize) -> Answer {
+        let mut buffer = filled_buffer(length);
+        let printed = write_text(text, &mut buffer);
+        Answer::Reported(printed, buffer)
+    }
+
     pub fn number(&self) -> Number {
         match self {
             Answer::Opened(opened) => opened.number,
@@ -85,6 +98,7 @@ impl fmt::Display for Call {
             Call::Run { budget } => write!(out, "run with budget {budget}"),
             Call::List { numbers } => write!(out, "list check of {numbers:?}"),
             Call::Report { length } => write!(out, "report into {length} bytes"),
+            Call::Print { length } => write!(out, "print into {length} bytes"),
         }
     }
 }

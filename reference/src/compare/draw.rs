@@ -3,6 +3,7 @@
 use super::call::Call;
 use crate::fast;
 use crate::gen::{random_round, Xorshift, WIDE_NUMBERS};
+use crate::program::PRINT_MOST;
 use crate::state::{End, WorkState};
 
 /// The lines of the full table of 64 stations are shorter.
@@ -126,6 +127,12 @@ pub fn report_lengths(state: &WorkState) -> [usize; 8] {
     let text = text_length(state);
     let room = text + LONGEST_TEXT;
     [0, 1, text - 2, text - 1, text, text + 1, text + 2, room]
+}
+
+/// A buffer one byte too short for the program's text, one of its length, and the
+/// one that always suffices.
+pub fn print_lengths(text: &str) -> [usize; 3] {
+    [text.len() - 1, text.len(), PRINT_MOST]
 }
 
 /// A bad state has no text, and any length will do.

@@ -1,10 +1,13 @@
 //! What the C interface promises beyond the calls themselves: states of too few
-//! or too many words, and marks and ends that are none.
+//! or too many words, marks and ends that are none, and the whole program in one
+//! call.
 
 use super::{raw, NO_STATE};
+use crate::calls::Fast;
 use crate::card;
-use crate::gen::ring;
-use crate::paper::NINE_LEGS;
+use crate::gen::{ring, Sheet};
+use crate::paper::{NINE_LEGS, NINE_LEGS_OUTPUT};
+use crate::program::{self, PRINT_MOST};
 use crate::state::WorkState;
 use crate::words::{to_words, Words, END, MARK, STATE_WORDS};
 
@@ -140,4 +143,51 @@ fn a_mark_or_end_that_is_none_is_a_bad_state() {
             }
         }
     }
+}
+
+const HEADER: &str = include_str!("../../../include/loungeegret.h");
+
+#[test]
+fn the_header_tells_the_room_for_every_text() {
+    assert!(HEADER.contains(&format!("LOUNGEEGRET_PRINT_MOST = {PRINT_MOST}\n")));
+}
+
+/// Prints into so many bytes, none of which stands in a text.
+fn print(sheet: &[u8], room: usize) -> (u32, usize, Vec<u8>) {
+    let (mut buffer, mut length) = (vec![b'~'; room], usize::MAX);
+    let answer = raw::print(sheet, &mut buffer, &mut length);
+    (answer, length, buffer)
+}
+
+/// What is printed into a buffer of any length.
+fn assert_prints(sheet: &[u8], text: &str) {
+    let length = text.len();
+    for room in [length, length + 1, PRINT_MOST] {
+        let buffer = text.to_string() + &"~".repeat(room - length);
+        let printed = (card::TAKEN.into(), length, buffer.into_bytes());
+        assert_eq!(print(sheet, room), printed);
+    }
+    for room in [0, 1, length - 1] {
+        let refused = (card::NO_ROOM.into(), 0, vec![b'~'; room]);
+        assert_eq!(print(sheet, room), refused);
+    }
+}
+
+#[test]
+fn the_text_is_printed_where_it_has_room() {
+    assert_prints(&NINE_LEGS, NINE_LEGS_OUTPUT);
+    assert_prints(
+        &[2, 4, 1, 0],
+        "stations 2 legs 1\nsteps 1 removed 0 end none\n",
+    );
+    let full = Sheet::plain(64).bytes();
+    assert_prints(&full, &program::output(&Fast, &full));
+}
+
+#[test]
+fn a_refused_sheet_is_printed_too() {
+    assert_prints(&[], "refused 1 at 0\n");
+    assert_prints(&[3, 0x0C], "refused 3 at 1\n");
+    let longer = [Sheet::longest().bytes(), vec![0]].concat();
+    assert_prints(&longer, "refused 5 at 1153\n");
 }

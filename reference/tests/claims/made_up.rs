@@ -59,7 +59,7 @@ Text with `anything` that is no row.
 | an edit and its text | `greedy`, `old: x` | `crates/a/must-fail/greedy.edit` |
 | C and a root file | `a_open` | `include/a.h` `README.md` |
 ";
-    assert_eq!(faults(&repository(), claims, &[]), [""; 0]);
+    assert_eq!(faults(&repository(), claims), [""; 0]);
 }
 
 /// A row, and its only fault.
@@ -103,21 +103,8 @@ const FAULTY: [(&str, &str); 13] = [
 #[test]
 fn each_fault_is_told() {
     let claims = FAULTY.map(|(row, _)| format!("| claim | {row} |\n"));
-    let told = faults(&repository(), &claims.concat(), &[]);
+    let told = faults(&repository(), &claims.concat());
     let numbered = (1..).zip(FAULTY);
     let expected = numbered.map(|(number, (_, fault))| format!("line {number}: {fault}"));
     assert_eq!(told, expected.collect::<Vec<_>>());
-}
-
-#[test]
-fn an_exception_holds_where_it_is_needed() {
-    let claims = "| claim | `isRound` | `crates/a/proofs` |";
-    let needed = ("isRound", "crates/a/proofs");
-    assert_eq!(faults(&repository(), claims, &[needed]), [""; 0]);
-    let told = faults(
-        &repository(),
-        claims,
-        &[needed, ("more", "crates/a/proofs")],
-    );
-    assert_eq!(told.len(), 1);
 }

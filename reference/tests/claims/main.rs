@@ -16,30 +16,6 @@ use repository::Repository;
 /// Functions of the language: a file uses them, and none defines them.
 const OF_THE_LANGUAGE: [&str; 2] = ["count_ones", "trailing_zeros"];
 
-/// Names that a row quotes from a file that uses them and does not define them.
-const USED_ONLY: [Exception; 8] = [
-    ("Called", "crates/filter/src/lib.rt"),
-    (
-        "pass_on",
-        "crates/filter/must-fail/passes_only_counted.edit",
-    ),
-    ("steps", "crates/filter/must-fail/steps_by_two.edit"),
-    (
-        "legs",
-        "crates/filter/must-fail/removals_the_wrong_way.edit",
-    ),
-    ("rows", "crates/separator/must-fail/outgoing_legs_only.edit"),
-    (
-        "words",
-        "crates/separator/must-fail/directed_reachability.edit",
-    ),
-    ("last", "crates/separator/must-fail/mark_on_itself.edit"),
-    ("file", "crates/matching/must-fail/greedy.edit"),
-];
-
-/// A name and a path.
-type Exception = (&'static str, &'static str);
-
 /// A name in more than this share of the proof files tells nothing, in percent.
 const MOST_COMMON: usize = 60;
 
@@ -48,7 +24,7 @@ fn claims_name_what_there_is() {
     let repository = Repository::read();
     let claims = repository.text("docs/CLAIMS.md");
     assert!(claims.lines().any(|line| line.starts_with('|')));
-    let faults = faults(&repository, claims, &USED_ONLY);
+    let faults = faults(&repository, claims);
     assert!(faults.is_empty(), "docs/CLAIMS.md\n{}", faults.join("\n"));
 }
 
@@ -93,7 +69,7 @@ impl<'a> Row<'a> {
         self.some_file(repository, |path, text| defines(path, text, name))
     }
 
-    fn faults(&self, repository: &Repository, exceptions: &[Exception]) -> Vec<String> {
+    fn faults(&self, repository: &Repository) -> Vec<String> {
         let exists = |path: &&&str| repository.at(path).next().is_some();
         let stands = |text: &&&str| self.some_file(repository, |_, file| file.contains(**text));
         let missing = self.paths.iter().filter(|path| !exists(path));
@@ -102,7 +78,7 @@ impl<'a> Row<'a> {
         missing
             .map(|path| format!("there is no {path}"))
             .chain(absent.map(|text| self.absent(text)))
-            .chain(names.filter_map(|name| self.name_fault(repository, exceptions, name)))
+            .chain(names.filter_map(|name| self.name_fault(repository, name)))
             .collect()
     }
 
@@ -110,12 +86,7 @@ impl<'a> Row<'a> {
         format!("`{quoted}` does not stand in {}", self.paths.join(", "))
     }
 
-    fn name_fault(
-        &self,
-        repository: &Repository,
-        exceptions: &[Exception],
-        name: &str,
-    ) -> Option<String> {
+    fn name_fault(&self, repository: &Repository, name: &str) -> Option<String> {
         if self.paths.is_empty() {
             return Some(format!("`{name}` has no file"));
         }
@@ -123,8 +94,7 @@ impl<'a> Row<'a> {
             if !self.some_file(repository, |_, text| has_word(text, name)) {
                 return Some(self.absent(name));
             }
-            let excepted = |&(used, path): &Exception| used == name && self.paths.contains(&path);
-            if !OF_THE_LANGUAGE.contains(&name) && !exceptions.iter().any(excepted) {
+            if !OF_THE_LANGUAGE.contains(&name) {
                 let paths = self.paths.join(", ");
                 return Some(format!("`{name}` is not defined in {paths}"));
             }
@@ -135,24 +105,13 @@ impl<'a> Row<'a> {
     }
 }
 
-/// Every fault of the claims, with its line; and every exception that they do
-/// not need.
-fn faults(repository: &Repository, claims: &str, exceptions: &[Exception]) -> Vec<String> {
-    let rows = || {
-        let numbered = (1..).zip(claims.lines());
-        numbered.filter_map(|(number, line)| Some((number, Row::new(repository, line)?)))
-    };
-    let of_rows = rows().flat_map(|(number, row): (u32, Row)| {
-        let faults = row.faults(repository, exceptions).into_iter();
+/// Every fault of the claims, with its line.
+fn faults(repository: &Repository, claims: &str) -> Vec<String> {
+    let numbered = (1..).zip(claims.lines());
+    let rows = numbered.filter_map(|(number, line)| Some((number, Row::new(repository, line)?)));
+    rows.flat_map(|(number, row): (u32, Row)| {
+        let faults = row.faults(repository).into_iter();
         faults.map(move |fault| format!("line {number}: {fault}"))
-    });
-    let needed = |&(name, path): &Exception| {
-        rows().any(|(_, row)| {
-            row.names.contains(&name) && row.paths.contains(&path) && !row.defines(repository, name)
-        })
-    };
-    let unneeded = exceptions.iter().filter(|exception| !needed(exception));
-    of_rows
-        .chain(unneeded.map(|exception| format!("no row needs the exception {exception:?}")))
-        .collect()
+    })
+    .collect()
 }

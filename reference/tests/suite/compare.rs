@@ -7,7 +7,7 @@ use reference::lines::Reported;
 use reference::list::Checked;
 use reference::run::Ran;
 use reference::sheet::Opened;
-use reference::{open, Calls, End, Fast, WorkState};
+use reference::{open, program, Calls, End, Fast, WorkState};
 
 #[test]
 fn fast_calls_differ_nowhere() {
@@ -57,10 +57,12 @@ enum Fault {
     CircuitsAsRounds,
     WritesBehindText,
     PlaceUnchecked,
+    PrintsWhatFits,
+    RefusalAsAnswer,
     Panics,
 }
 
-const FAULTS: [Fault; 9] = [
+const FAULTS: [Fault; 11] = [
     Fault::PlaceOfRefusal,
     Fault::RemovalCount,
     Fault::LimitIgnored,
@@ -69,6 +71,8 @@ const FAULTS: [Fault; 9] = [
     Fault::CircuitsAsRounds,
     Fault::WritesBehindText,
     Fault::PlaceUnchecked,
+    Fault::PrintsWhatFits,
+    Fault::RefusalAsAnswer,
     Fault::Panics,
 ];
 
@@ -134,6 +138,18 @@ impl Calls for Faulty {
             buffer[end] = 0;
         }
         reported
+    }
+
+    fn print(&self, sheet: &[u8], buffer: &mut [u8]) -> Reported {
+        let mut printed = Fast.print(sheet, buffer);
+        if matches!(self.0, Fault::PrintsWhatFits) && printed.number == 10 {
+            let text = program::output(&Fast, sheet);
+            buffer.copy_from_slice(&text.as_bytes()[..buffer.len()]);
+        }
+        if matches!(self.0, Fault::RefusalAsAnswer) && printed.number == 0 {
+            printed.number = Fast.open(sheet, 64).number;
+        }
+        printed
     }
 
     fn bad(&self, state: &WorkState) -> bool {
