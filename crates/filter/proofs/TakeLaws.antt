@@ -11,6 +11,8 @@ use borrow.Author.Tests.{le-leb, lt-leb}
 use Rattle.bitset.specs.Sets.{size}
 use Rattle.bitset.proofs.BoolLaws.{cases, cond-true, cond-false}
 use Rattle.bitset.proofs.OnesLaws.{size-ones}
+use Rattle.bitset.proofs.UptoLaws.{length-upto}
+use Rattle.circuit.specs.Legs.{col}
 use Rattle.circuit.specs.declared.verdict.Verdict.{Verdict}
 use Rattle.circuit.specs.Verdict.{leaves}
 use Rattle.separator.specs.Levels.{inner}
@@ -18,11 +20,21 @@ use Rattle.separator.specs.Level.{level}
 use Rattle.separator.proofs.InnerLaws.{innerFrom, inner-start, inner-step, inner-end}
 use Rattle.filter.specs.Pass.{passOver}
 use Rattle.circuit.specs.inner.Tables.{Columned, TableTaken}
-use Rattle.filter.specs.inner.Steps.{limited}
+use Rattle.filter.specs.declared.rule.Taken.{Taken}
+use Rattle.filter.specs.inner.Steps.{RowsTaken, limited}
 
 -- what was taken of a verdict was taken of an equal one
 pub taken-as : {n : ℕ} {u v : Verdict} {none : Bool} {rows cols : List ℕ} → u ≡ v → TableTaken n u none rows cols → TableTaken n v none rows cols
 taken-as e T = record { verdict = sym e ∙ T .verdict; table = T .table }
+
+pub rows-as : {n : ℕ} {u v : Verdict} {r : Taken} {rows cols : List ℕ} → u ≡ v → RowsTaken n u r rows cols → RowsTaken n v r rows cols
+rows-as e T = record { verdict = sym e ∙ T .verdict; clean = T .clean; len = T .len; wide = T .wide; columns = T .columns }
+
+-- columns in step with the rows are not stale
+pub in-step : {n : ℕ} {v : Verdict} {none : Bool} {rows cols : List ℕ} → TableTaken n v none rows cols → RowsTaken n v (record { none = none; stale = false }) rows cols
+in-step {n} {rows = rows} T =
+    let C = T .table in
+    record { verdict = T .verdict; clean = C .clean; len = C .len; wide = ap length (C .columns) ∙ length-upto 64 (col n rows); columns = λ _. C .columns }
 
 -- ---- one level
 

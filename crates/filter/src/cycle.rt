@@ -1,7 +1,7 @@
 // The run: one step after the other, through the cycle of the places.
 use crate::hand::removals;
 use crate::rule::Rule;
-use crate::rule::take;
+use crate::rule::take_on;
 use circuit::Answer;
 use circuit::End;
 use circuit::Table;
@@ -85,7 +85,7 @@ fn run_from(work: Work, budget: u32) -> Ran
         if end.is_open() {
             let before = rows;
             let rule = Rule::at_place(at.place);
-            let none = take(rule, &mut rows, &mut cols, n, limit);
+            let none = take_on(rule, &mut rows, &mut cols, n, limit);
             let gone = removals(&before, &rows, n);
             at = advance(at, n, none, gone);
             steps += 1;

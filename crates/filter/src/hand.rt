@@ -110,8 +110,14 @@ fn call(work: Work, rule: Rule) -> Called
     let table = work.table;
     let mut rows = table.rows;
     let mut cols = circuit::columns(&rows, n);
-    let none = take(rule, &mut rows, &mut cols, n, work.limit);
-    by_hand(work, Verdict { none, left: rows })
+    let taken = take(rule, &mut rows, &mut cols, n, work.limit);
+    by_hand(
+        work,
+        Verdict {
+            none: taken.none,
+            left: rows,
+        },
+    )
 }
 
 // The sweep by hand.

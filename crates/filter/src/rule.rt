@@ -1,11 +1,14 @@
 // A rule that strikes legs: a sweep, or a pass with a seed. The seed is a station's number, from 1.
 use crate::passing::pass_on;
-use crate::sweeping::sweep_on;
+use crate::sweeping::sweep_rows;
+ghost use denote.Ref.{now};
 ghost use mathlib.Core.Bool.{false};
 ghost use mathlib.Core.Path.{_≡_};
 ghost use Prim.Native.Nat.{_≤_};
+ghost use lib.ListN.{length};
 ghost use Rattle.circuit.specs.inner.Tables.{Columned, TableTaken};
 ghost use Rattle.filter.specs.Rule.{says, straySeed, ruleAt};
+ghost use Rattle.filter.specs.inner.Steps.{RowsTaken};
 
 pub enum Rule {
     Sweep,
@@ -35,8 +38,45 @@ impl Rule {
     }
 }
 
-// Strikes what the rule strikes, from the rows and the columns alike. Answers whether the verdict is none.
+// What was taken of a rule: whether the verdict is none, and whether the columns are no longer those of the rows.
+pub(crate) struct Taken {
+    pub(crate) none: bool,
+    pub(crate) stale: bool,
+}
+
+// Strikes what the rule strikes. A pass keeps the columns in step with the rows; a sweep leaves them as they were.
 pub(crate) fn take(
+    rule: Rule,
+    rows: &mut [u64; 64],
+    cols: &mut [u64; 64],
+    n: usize,
+    limit: usize,
+) -> Taken
+    requires { ⌜ (n ≤ 64) × (straySeed n rule ≡ false) × Columned n (now rows) (now cols) ⌝ }
+    ensures { λ r. ⌜ RowsTaken n (says rule n (now (rows .entry)) limit) r (now (rows .exit)) (now (cols .exit)) ⌝ }
+{
+    match rule {
+        Rule::Sweep => sweep_rows(rows, cols, n),
+        Rule::Pass(seed) => {
+            let none = pass_on(rows, cols, n, limit, seed - 1);
+            Taken { none, stale: false }
+        }
+    }
+}
+
+fn copy_words(from: &[u64; 64], to: &mut [u64; 64])
+    requires { ⌜ (length (now from) ≡ 64) × (length (now to) ≡ 64) ⌝ }
+    ensures { λ _. ⌜ now (to .exit) ≡ now (from .entry) ⌝ }
+{
+    let mut i = 0usize;
+    while i < 64 {
+        to[i] = from[i];
+        i += 1;
+    }
+}
+
+// The same, with the columns of what is left. Answers whether the verdict is none.
+pub(crate) fn take_on(
     rule: Rule,
     rows: &mut [u64; 64],
     cols: &mut [u64; 64],
@@ -46,8 +86,10 @@ pub(crate) fn take(
     requires { ⌜ (n ≤ 64) × (straySeed n rule ≡ false) × Columned n (now rows) (now cols) ⌝ }
     ensures { λ r. ⌜ TableTaken n (says rule n (now (rows .entry)) limit) r (now (rows .exit)) (now (cols .exit)) ⌝ }
 {
-    match rule {
-        Rule::Sweep => sweep_on(rows, cols, n),
-        Rule::Pass(seed) => pass_on(rows, cols, n, limit, seed - 1),
+    let taken = take(rule, rows, cols, n, limit);
+    if taken.stale {
+        let fresh = circuit::columns(rows, n);
+        copy_words(&fresh, cols);
     }
+    taken.none
 }

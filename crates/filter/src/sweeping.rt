@@ -1,4 +1,5 @@
 // The sweep on words: which stations have one leg only, and what that leaves of each row.
+use crate::rule::Taken;
 ghost use denote.Ref.{now};
 ghost use mathlib.Core.Path.{_≡_};
 ghost use mathlib.Core.Bool.{false, cond, _&&_};
@@ -7,8 +8,9 @@ ghost use lib.ListN.{length};
 ghost use Rattle.bitset.specs.Sets.{has};
 ghost use Rattle.circuit.specs.Legs.{columns};
 ghost use Rattle.circuit.specs.State.{stray};
-ghost use Rattle.circuit.specs.inner.Tables.{Columned, TableTaken};
+ghost use Rattle.circuit.specs.inner.Tables.{Columned};
 ghost use Rattle.filter.specs.Sweep.{swept, sweep};
+ghost use Rattle.filter.specs.inner.Steps.{RowsTaken};
 ghost use Rattle.filter.specs.inner.Singles.{single, SinglesOf, keeps};
 
 // Of the first words of a list: some word is empty; which words have one member only; the members of these; the members of two of these.
@@ -95,30 +97,22 @@ fn sweep_words(rows: &mut [u64; 64], n: usize, next: Singles, prev: Singles) -> 
     struck
 }
 
-fn copy_words(from: &[u64; 64], to: &mut [u64; 64])
-    requires { ⌜ (length (now from) ≡ 64) × (length (now to) ≡ 64) ⌝ }
-    ensures { λ _. ⌜ now (to .exit) ≡ now (from .entry) ⌝ }
-{
-    let mut i = 0usize;
-    while i < 64 {
-        to[i] = from[i];
-        i += 1;
-    }
-}
-
-// The sweep, on the rows and the columns alike: columns are gathered again where a leg went. Answers whether the verdict is none.
-pub(crate) fn sweep_on(rows: &mut [u64; 64], cols: &mut [u64; 64], n: usize) -> bool
+// The sweep on the rows; the columns are stale where a leg went.
+pub(crate) fn sweep_rows(rows: &mut [u64; 64], cols: &[u64; 64], n: usize) -> Taken
     requires { ⌜ (n ≤ 64) × Columned n (now rows) (now cols) ⌝ }
-    ensures { λ r. ⌜ TableTaken n (sweep n (now (rows .entry))) r (now (rows .exit)) (now (cols .exit)) ⌝ }
+    ensures { λ r. ⌜ RowsTaken n (sweep n (now (rows .entry))) r (now (rows .exit)) (now (cols .entry)) ⌝ }
 {
     let next = single_words(rows, n);
     let prev = single_words(cols, n);
     if next.empty | prev.empty {
-        return true;
+        return Taken {
+            none: true,
+            stale: false,
+        };
     }
-    if sweep_words(rows, n, next, prev) {
-        let fresh = circuit::columns(rows, n);
-        copy_words(&fresh, cols);
+    let struck = sweep_words(rows, n, next, prev);
+    Taken {
+        none: false,
+        stale: struck,
     }
-    false
 }

@@ -52,10 +52,10 @@ at-place-requires c κs = search needs
 
 -- ---- places in the code of one turn, from the last call of each back to the turn's start
 
-abbrev at-rule : tie.After-take Inv-loop μ-loop → tie.After-at-place Inv-loop μ-loop
+abbrev at-rule : tie.After-take-on Inv-loop μ-loop → tie.After-at-place Inv-loop μ-loop
 at-rule c = c .before .before .before
 
-abbrev taken-at : tie.After-removals Inv-loop μ-loop → tie.After-take Inv-loop μ-loop
+abbrev taken-at : tie.After-removals Inv-loop μ-loop → tie.After-take-on Inv-loop μ-loop
 taken-at c = c .before .before .before
 
 abbrev turn-of : tie.After-at-place Inv-loop μ-loop → tie.At-loop Inv-loop μ-loop
@@ -68,18 +68,18 @@ start-of v = v .before .before .before .before .before
 abbrev now-at : tie.At-loop Inv-loop μ-loop → Work
 now-at v = stateAt (start-of v .args .work) (v .loop .rows) (v .loop .at)
 
-take-requires : tie.Need-take-requires Inv-loop μ-loop
-take-requires c κs =
+take-on-requires : tie.Need-take-on-requires Inv-loop μ-loop
+take-on-requires c κs =
     let r = c .before .before in
     let w = now-at (turn-of r) in
     let i = turn-of r .loop .inv in
     (i .1 .most, ap (straySeed (w .n)) (r .at-place .ensures) ∙ place-fits (w .n) (w .place) (i .2 .good .place), i .3)
 
--- what the rule at the place says of the state's table is what `take` left
-says-at : (c : tie.After-take Inv-loop μ-loop) → let w = now-at (turn-of (at-rule c)) in verdict w (ruleAt (w .place)) ≡ record { none = c .take .result; left = c .take .last .1 .0 }
+-- what the rule at the place says of the state's table is what `take_on` left
+says-at : (c : tie.After-take-on Inv-loop μ-loop) → let w = now-at (turn-of (at-rule c)) in verdict w (ruleAt (w .place)) ≡ record { none = c .take-on .result; left = c .take-on .last .1 .0 }
 says-at c =
     let w = now-at (turn-of (at-rule c)) in
-    ap (verdict w) (sym (at-rule c .at-place .ensures)) ∙ c .take .ensures .verdict
+    ap (verdict w) (sym (at-rule c .at-place .ensures)) ∙ c .take-on .ensures .verdict
 
 removals-requires : tie.Need-removals-requires Inv-loop μ-loop
 removals-requires c κs =
@@ -87,7 +87,7 @@ removals-requires c κs =
     let v = turn-of (at-rule k) in
     let w = now-at v in
     let i = v .loop .inv in
-    (i .1 .most, i .3 .clean, k .take .ensures .table .clean, subst (λ (x : Verdict). Subtable (x .left) (rowsOf w)) (says-at k) (place-sound w (i .2 .good) .sub))
+    (i .1 .most, i .3 .clean, k .take-on .ensures .table .clean, subst (λ (x : Verdict). Subtable (x .left) (rowsOf w)) (says-at k) (place-sound w (i .2 .good) .sub))
 
 advance-requires : tie.Need-advance-requires Inv-loop μ-loop
 advance-requires c κs =
@@ -97,7 +97,7 @@ advance-requires c κs =
 -- one step more
 turn : (c : tie.After-advance Inv-loop μ-loop)
     → let v = turn-of (at-rule (taken-at (c .before))) in
-    Run (start-of v .args .work) (stateAt (start-of v .args .work) (taken-at (c .before) .take .last .1 .0) (c .advance .result))
+    Run (start-of v .args .work) (stateAt (start-of v .args .work) (taken-at (c .before) .take-on .last .1 .0) (c .advance .result))
     (v .loop .steps + 1) (v .loop .removed + c .before .removals .result)
 unfolding gone
 turn c =
@@ -105,7 +105,7 @@ turn c =
     let way = at-rule k .before in
     let v = turn-of (at-rule k) in
     let w = now-at v in
-    let x : Verdict = record { none = k .take .result; left = k .take .last .1 .0 } in
+    let x : Verdict = record { none = k .take-on .result; left = k .take-on .last .1 .0 } in
     let r = c .before .removals .result in
     run-turn (v .loop .inv .2) (sym (way .before .is-open .ensures) ∙ way .if1 .taken) _
     (step-is w x (stateAt (start-of v .args .work) (x .left) (c .advance .result)) r (sym (says-at k)) (c .before .removals .ensures) (c .advance .ensures w x refl refl refl refl (c .before .removals .ensures)))
@@ -127,7 +127,7 @@ loop-less c = search needs
 loop-again : tie.Need-loop-again Inv-loop μ-loop
 loop-again c =
     let k = taken-at (c .before) in
-    (omega arith, turn-of (at-rule k) .loop .inv .1, turn c, k .take .ensures .table)
+    (omega arith, turn-of (at-rule k) .loop .inv .1, turn c, k .take-on .ensures .table)
 
 moved-requires : tie.Need-moved-requires Inv-loop μ-loop
 moved-requires c κs = search needs
@@ -150,7 +150,7 @@ run-from-spec =
     loop-holds
     is-open-requires
     at-place-requires
-    take-requires
+    take-on-requires
     removals-requires
     advance-requires
     add-steps

@@ -7,15 +7,15 @@ use Rattle.bitset.proofs.OutsideLaws.{inside}
 use Rattle.filter.specs.declared.rule.Rule.{Rule}
 use Rattle.filter.specs.Pass.{pass}
 use Rattle.filter.specs.Rule.{says, straySeed}
-use Rattle.filter.proofs.TakeLaws.{taken-as}
+use Rattle.filter.proofs.TakeLaws.{rows-as, in-step}
 use Rattle.filter.proofs.rule.take.Statement.{statement}
 use Rattle.filter.proofs.rule.take.Tie as tie
 
 enum-told : tie.Need-enum-told
 enum-told c = search needs
 
-sweep-on-requires : tie.Need-sweep-on-requires
-sweep-on-requires c κs = let s = c .before .before .before .before in (s .pre .0, s .pre .2)
+sweep-rows-requires : tie.Need-sweep-rows-requires
+sweep-rows-requires c κs = let s = c .before .before .before .before in (s .pre .0, s .pre .2)
 
 enum-known-rule : tie.Need-enum-known-rule
 enum-known-rule c = search needs
@@ -48,7 +48,7 @@ unfolding says
 returns c =
     let told = c .before .before .before in
     let a = told .before .before .args in
-    taken-as (ap (λ (r : Rule). says r (a .n) (a .rows .now) (a .limit)) (sym (told .enum-told .given .1))) (c .sweep-on .ensures)
+    rows-as (ap (λ (r : Rule). says r (a .n) (a .rows .now) (a .limit)) (sym (told .enum-told .given .1))) (c .sweep-rows .ensures)
 
 returns-2 : tie.Need-returns-2
 unfolding says
@@ -56,14 +56,14 @@ returns-2 c =
     let k = known (c .before) in
     let a = start k .args in
     let index : k .rule .given .0 .0 - 1 ≡ pred (k .rule .given .0 .0) = omega (arith, seed-fits k .0) in
-    taken-as (ap (pass (a .n) (a .rows .now) (a .limit)) index ∙ ap (λ (r : Rule). says r (a .n) (a .rows .now) (a .limit)) (sym (k .rule .given .1))) (c .pass-on .ensures)
+    rows-as (ap (pass (a .n) (a .rows .now) (a .limit)) index ∙ ap (λ (r : Rule). says r (a .n) (a .rows .now) (a .limit)) (sym (k .rule .given .1))) (in-step (c .pass-on .ensures))
 
 pub take-spec : {M : Type 1} → statement M
 take-spec =
     tie.close
     (tie.spec
     enum-told
-    sweep-on-requires
+    sweep-rows-requires
     enum-known-rule
     sub-pass-on
     pass-on-requires

@@ -5,8 +5,8 @@ use Prim.Native.Nat.{_-_, _≤_}
 use native.Mathlib.Omega.{arith}
 use lib.ListN.{getD}
 use Rattle.bitset.proofs.UptoLaws.{Filled, filled-none, filled-more, filled-all, upto-of}
-use Rattle.filter.proofs.sweeping.copy_words.Statement.{statement}
-use Rattle.filter.proofs.sweeping.copy_words.Tie as tie
+use Rattle.filter.proofs.rule.copy_words.Statement.{statement}
+use Rattle.filter.proofs.rule.copy_words.Tie as tie
 
 abbrev Inv-loop : tie.InvT-loop
 Inv-loop from to₀ i₀ to i = (i ≤ 64) × Filled 64 (λ k. getD from k 0) i to

@@ -1,4 +1,4 @@
--- `filter::sweep_on` meets its contract.
+-- `filter::sweep_rows` meets its contract.
 use borrow.Author.Needs.{needs}
 use mathlib.Core.Path.{_≡_, sym, ap, _∙_}
 use mathlib.Core.Bool.{false}
@@ -10,12 +10,11 @@ use Rattle.circuit.specs.declared.verdict.Verdict.{Verdict}
 use Rattle.circuit.specs.Legs.{col, columns}
 use Rattle.circuit.specs.State.{stray}
 use Rattle.circuit.specs.Verdict.{leaves}
-use Rattle.circuit.proofs.StateLaws.{stray-row}
 use Rattle.filter.specs.Sweep.{sweep}
 use Rattle.filter.proofs.SweepLaws.{sweep-sound}
 use Rattle.filter.proofs.SweptLaws.{sweptRow, swept-rows, of-columns, sweep-none, sweep-left}
-use Rattle.filter.proofs.sweeping.sweep_on.Statement.{statement}
-use Rattle.filter.proofs.sweeping.sweep_on.Tie as tie
+use Rattle.filter.proofs.sweeping.sweep_rows.Statement.{statement}
+use Rattle.filter.proofs.sweeping.sweep_rows.Tie as tie
 
 single-words-requires : tie.Need-single-words-requires
 single-words-requires c κs = search needs
@@ -26,24 +25,24 @@ single-words-requires-2 c κs = search needs
 returns : tie.Need-returns
 returns c =
     let prev = c .before .before .before in
-    let next = prev .before .before in
+    let next = prev .before in
     let s = next .before .before in
     let C = s .pre .1 in
     record {
       verdict = sym (sweep-none (s .args .n) (s .args .rows .now) (s .pre .0) (C .clean) (next .single-words .result) (prev .single-words2 .result) (next .single-words .ensures) (s .args .cols .now) (C .columns) (prev .single-words2 .ensures) (c .if1 .taken));
-      table = C;
+      clean = C .clean;
+      len = C .len;
+      wide = ap length (C .columns) ∙ length-upto 64 (col (s .args .n) _);
+      columns = λ _. C .columns;
     }
 
--- ---- places in the code: no row and no column is empty; the rows are swept; their columns are gathered
+-- ---- places in the code: no row and no column is empty; the rows are swept
 
 abbrev start : tie.Else1 → tie.Start
-start c = c .before .before .before .before .before .before .before
+start c = c .before .before .before .before .before .before
 
 abbrev full : tie.After-sweep-words → tie.Else1
 full c = c .before .before
-
-abbrev swept-at : tie.After-columns → tie.After-sweep-words
-swept-at c = c .before .before .before
 
 -- what the sweep leaves, and its verdict
 record Left (n : ℕ) (t left : List ℕ) : Type 0 where
@@ -54,7 +53,7 @@ record Left (n : ℕ) (t left : List ℕ) : Type 0 where
 left : (c : tie.After-sweep-words) → Left (start (full c) .args .n) (start (full c) .args .rows .now) (c .sweep-words .last .0)
 left c =
     let prev = full c .before .before .before in
-    let next = prev .before .before in
+    let next = prev .before in
     let s = start (full c) in
     let n = s .args .n in
     let t = s .args .rows .now in
@@ -69,7 +68,7 @@ left c =
 sweep-words-requires : tie.Need-sweep-words-requires
 sweep-words-requires c κs =
     let prev = c .before .before .before .before in
-    let next = prev .before .before in
+    let next = prev .before in
     let s = start (c .before) in
     let C = s .pre .1 in (
       s .pre .0,
@@ -79,40 +78,20 @@ sweep-words-requires c κs =
       of-columns (s .args .n) (s .args .rows .now) (s .pre .0) (C .clean) (next .single-words .result) (prev .single-words2 .result) (next .single-words .ensures) (s .args .cols .now) (C .columns) (prev .single-words2 .ensures),
     )
 
-columns-requires : tie.Need-columns-requires
-columns-requires c κs =
-    let w = c .before .before in
-    let s = start (full w) in
-    (s .pre .0, stray-row _ _ (s .pre .0) (left w .clean))
-
-copy-words-requires : tie.Need-copy-words-requires
-copy-words-requires c κs =
-    let cols = c .before .before in
-    let s = start (full (swept-at cols)) in
-    (ap length (cols .columns .ensures) ∙ length-upto 64 (col (s .args .n) _), ap length (s .pre .1 .columns) ∙ length-upto 64 (col (s .args .n) _))
-
 returns-2 : tie.Need-returns-2
 returns-2 c =
-    let cols = c .before .before .before in
-    let L = left (swept-at cols) in
-    record { verdict = L .verdict; table = record { clean = L .clean; len = L .len; columns = c .copy-words .ensures ∙ cols .columns .ensures } }
+    let s = start (full c) in
+    let C = s .pre .1 in
+    let L = left c in
+    record {
+      verdict = L .verdict;
+      clean = L .clean;
+      len = L .len;
+      wide = ap length (C .columns) ∙ length-upto 64 (col (s .args .n) _);
+      columns = λ e. C .columns ∙ ap (columns (s .args .n)) (sym (c .sweep-words .ensures .1 e));
+    }
 
-returns-3 : tie.Need-returns-3
-returns-3 c =
-    let w = c .before in
-    let s = start (full w) in
-    let L = left w in
-    record { verdict = L .verdict; table = record { clean = L .clean; len = L .len; columns = s .pre .1 .columns ∙ ap (columns (s .args .n)) (sym (w .sweep-words .ensures .1 (c .if2 .left))) } }
-
-pub sweep-on-spec : {M : Type 1} → statement M
-sweep-on-spec =
+pub sweep-rows-spec : {M : Type 1} → statement M
+sweep-rows-spec =
     tie.close
-    (tie.spec
-    single-words-requires
-    single-words-requires-2
-    returns
-    sweep-words-requires
-    columns-requires
-    copy-words-requires
-    returns-2
-    returns-3)
+    (tie.spec single-words-requires single-words-requires-2 returns sweep-words-requires returns-2)
