@@ -75,7 +75,7 @@ fn copy_words(from: &[u64; 64], to: &mut [u64; 64])
     }
 }
 
-// The same, with the columns of what is left. Answers whether the verdict is none.
+// Takes the rule, and gathers the columns of what is left where they are stale. Answers whether the verdict is none.
 pub(crate) fn take_on(
     rule: Rule,
     rows: &mut [u64; 64],
