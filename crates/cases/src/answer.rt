@@ -60,7 +60,7 @@ pub fn print_work(work: Work) {
     print_state(work);
 }
 
-// A sweep or a pass, by its name.
+// A sweep, a chain step or a pass, by its name.
 pub fn print_called(name: &[u8], called: Called) {
     let answer = called.answer;
     print_pair(

@@ -3,6 +3,7 @@
 //   O  open        limit u64, length u16, sheet bytes
 //   W  work state  n, limit, place u64, mark u8, end u8, 64 rows u64
 //   S  sweep
+//   C  chain step
 //   P  pass        seed u64
 //   R  run         budget u32
 //   L  list check  length u16, numbers one byte each
@@ -122,6 +123,18 @@ fn sweep(work: Work) -> Step
     }
 }
 
+fn chain(work: Work) -> Step
+    ensures { λ r. ⌜ r .taken ≡ 1 ⌝ }
+{
+    let chained = filter::chain(work);
+    print_called(b"chain ", chained);
+    let next = chained.work;
+    Step {
+        taken: 1,
+        work: next,
+    }
+}
+
 fn pass(part: &[u8], work: Work) -> Step
     ensures { λ r. ⌜ r .taken ≤ length (now (part .entry)) ⌝ }
 {
@@ -197,6 +210,7 @@ fn command(part: &[u8], work: Work) -> Step
         b'O' => open(part, work),
         b'W' => set_work(part, work),
         b'S' => sweep(work),
+        b'C' => chain(work),
         b'P' => pass(part, work),
         b'R' => run(part, work),
         b'L' => check_list(part, work),

@@ -3,6 +3,7 @@ use crate::card::End;
 use crate::table::Table;
 use crate::table::stray;
 ghost use mathlib.Core.Path.{_≡_};
+ghost use Prim.Native.Nat.{_≤_};
 ghost use Rattle.circuit.specs.State.{state, blank, fresh, moved, lastPlace, bad};
 
 pub struct Work {
@@ -57,9 +58,10 @@ impl Work {
 
     // The last place of the cycle.
     pub fn last_place(n: usize) -> usize
+        requires { ⌜ n ≤ 64 ⌝ }
         ensures { λ r. ⌜ r ≡ lastPlace n ⌝ }
     {
-        n
+        n + 1
     }
 
     // Is it a bad work state (7)?

@@ -1,3 +1,4 @@
 -- What the functions promise each other.
 pub mod Steps
 pub mod Singles
+pub mod Chains

@@ -13,10 +13,10 @@ ghost use Prim.Native.Nat.{ℕ, _-_, _<_, _≤_};
 ghost use Rattle.bitset.specs.Upto.{row};
 ghost use Rattle.circuit.specs.Legs.{legs, Subtable};
 ghost use Rattle.circuit.specs.State.{isNone, stray, Good};
-ghost use Rattle.filter.specs.Calls.{unchanged, byHand, handCall, sweepCall, passCall};
+ghost use Rattle.filter.specs.Calls.{unchanged, byHand, handCall, sweepCall, chainCall, passCall};
 ghost use Rattle.filter.specs.inner.Steps.{Narrows};
 
-// What a sweep or a pass by hand hands back.
+// What a rule called by hand hands back.
 pub struct Called {
     pub answer: Answer,
     pub work: Work,
@@ -125,6 +125,13 @@ pub fn sweep(work: Work) -> Called
     ensures { λ r. ⌜ r ≡ sweepCall work ⌝ }
 {
     call(work, Rule::Sweep)
+}
+
+// The chain step by hand.
+pub fn chain(work: Work) -> Called
+    ensures { λ r. ⌜ r ≡ chainCall work ⌝ }
+{
+    call(work, Rule::Chain)
 }
 
 // The pass by hand; the seed is a station's number, from 1.

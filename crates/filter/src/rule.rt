@@ -1,4 +1,5 @@
-// A rule that strikes legs: a sweep, or a pass with a seed. The seed is a station's number, from 1.
+// A rule that strikes legs: a sweep, a chain step, or a pass with a seed. The seed is a station's number, from 1.
+use crate::chaining::chain_rows;
 use crate::passing::pass_on;
 use crate::sweeping::sweep_rows;
 ghost use denote.Ref.{now};
@@ -12,6 +13,7 @@ ghost use Rattle.filter.specs.inner.Steps.{RowsTaken};
 
 pub enum Rule {
     Sweep,
+    Chain,
     Pass(usize),
 }
 
@@ -22,6 +24,7 @@ impl Rule {
     {
         match self {
             Rule::Sweep => false,
+            Rule::Chain => false,
             Rule::Pass(seed) => bitset::outside(1, n, seed),
         }
     }
@@ -31,10 +34,12 @@ impl Rule {
         ensures { λ r. ⌜ r ≡ ruleAt place ⌝ }
     {
         if place == 0 {
-            Rule::Sweep
-        } else {
-            Rule::Pass(place)
+            return Rule::Sweep;
         }
+        if place == 1 {
+            return Rule::Chain;
+        }
+        Rule::Pass(place - 1)
     }
 }
 
@@ -44,7 +49,7 @@ pub(crate) struct Taken {
     pub(crate) stale: bool,
 }
 
-// Strikes what the rule strikes. A pass keeps the columns in step with the rows; a sweep leaves them as they were.
+// Strikes what the rule strikes. A pass keeps the columns in step with the rows; a sweep and a chain step leave them as they were.
 pub(crate) fn take(
     rule: Rule,
     rows: &mut [u64; 64],
@@ -52,11 +57,12 @@ pub(crate) fn take(
     n: usize,
     limit: usize,
 ) -> Taken
-    requires { ⌜ (n ≤ 64) × (straySeed n rule ≡ false) × Columned n (now rows) (now cols) ⌝ }
+    requires { ⌜ (2 ≤ n) × (n ≤ 64) × (straySeed n rule ≡ false) × Columned n (now rows) (now cols) ⌝ }
     ensures { λ r. ⌜ RowsTaken n (says rule n (now (rows .entry)) limit) r (now (rows .exit)) (now (cols .exit)) ⌝ }
 {
     match rule {
         Rule::Sweep => sweep_rows(rows, cols, n),
+        Rule::Chain => chain_rows(rows, cols, n),
         Rule::Pass(seed) => {
             let none = pass_on(rows, cols, n, limit, seed - 1);
             Taken { none, stale: false }
@@ -83,7 +89,7 @@ pub(crate) fn take_on(
     n: usize,
     limit: usize,
 ) -> bool
-    requires { ⌜ (n ≤ 64) × (straySeed n rule ≡ false) × Columned n (now rows) (now cols) ⌝ }
+    requires { ⌜ (2 ≤ n) × (n ≤ 64) × (straySeed n rule ≡ false) × Columned n (now rows) (now cols) ⌝ }
     ensures { λ r. ⌜ TableTaken n (says rule n (now (rows .entry)) limit) r (now (rows .exit)) (now (cols .exit)) ⌝ }
 {
     let taken = take(rule, rows, cols, n, limit);

@@ -14,11 +14,11 @@ ghost use Rattle.filter.specs.inner.Steps.{RowsTaken};
 ghost use Rattle.filter.specs.inner.Singles.{single, SinglesOf, keeps};
 
 // Of the first words of a list: some word is empty; which words have one member only; the members of these; the members of two of these.
-struct Singles {
-    empty: bool,
-    which: u64,
-    once: u64,
-    twice: u64,
+pub(crate) struct Singles {
+    pub(crate) empty: bool,
+    pub(crate) which: u64,
+    pub(crate) once: u64,
+    pub(crate) twice: u64,
 }
 
 // The word, where it has one member only.
@@ -28,7 +28,7 @@ fn only_member(w: u64) -> u64
     if u64::count_ones(w) == 1 { w } else { 0 }
 }
 
-fn single_words(words: &[u64; 64], n: usize) -> Singles
+pub(crate) fn single_words(words: &[u64; 64], n: usize) -> Singles
     requires { ⌜ n ≤ 64 ⌝ }
     ensures { λ r. ⌜ SinglesOf n (now (words .entry)) r ⌝ }
 {

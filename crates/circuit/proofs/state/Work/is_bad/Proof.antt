@@ -1,6 +1,7 @@
 -- `circuit::Work::is_bad` meets its contract.
 use borrow.Author.Needs.{needs}
 use mathlib.Core.Path.{sym, _∙_}
+use Prim.Native.Nat.{_≤_}
 use Rattle.circuit.specs.State.{bad}
 use Rattle.bitset.proofs.OutsideLaws.{inside}
 use Rattle.circuit.proofs.state.Work.is_bad.Statement.{statement}
@@ -13,16 +14,18 @@ returns : tie.Need-returns
 unfolding bad
 returns c = rw (sym (c .before .outside .ensures) ∙ c .if1 .taken)
 
+-- n is at most 64 where the code goes on
+most : (c : tie.Else1) → c .before .before .args .self .n ≤ 64
+most c = inside 2 64 _ (sym (c .before .outside .ensures) ∙ c .if1 .left) .1
+
 stray-requires : tie.Need-stray-requires
-stray-requires c κs =
-    let l = c .before .before .before in
-    inside 2 64 _ (sym (l .before .outside .ensures) ∙ l .if1 .left) .1
+stray-requires c κs = most (c .before .before .before)
 
 outside-requires-2 : tie.Need-outside-requires-2
 outside-requires-2 c κs = search needs
 
 last-place-requires : tie.Need-last-place-requires
-last-place-requires c κs = search needs
+last-place-requires c κs = most (c .before .before .before .before .before)
 
 returns-2 : tie.Need-returns-2
 unfolding bad
