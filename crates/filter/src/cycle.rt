@@ -8,7 +8,7 @@ use circuit::Table;
 use circuit::Work;
 ghost use mathlib.Core.Path.{_≡_};
 ghost use Prim.Native.Nat.{_≤_};
-ghost use Rattle.circuit.specs.State.{Good};
+ghost use Rattle.circuit.specs.State.{lastPlace, Good};
 ghost use Rattle.filter.specs.Calls.{runFrom, runCall};
 ghost use Rattle.filter.specs.inner.Steps.{Advanced};
 
@@ -29,7 +29,7 @@ struct Cursor {
 
 // Where a step takes the run.
 fn advance(at: Cursor, n: usize, none: bool, removed: u32) -> Cursor
-    requires { ⌜ at .place ≤ 64 ⌝ }
+    requires { ⌜ (n ≤ 64) × (at .place ≤ lastPlace n) ⌝ }
     ensures { λ r. ⌜ Advanced n at none removed r ⌝ }
 {
     let place = at.place;

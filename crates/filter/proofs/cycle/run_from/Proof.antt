@@ -73,7 +73,7 @@ take-on-requires c κs =
     let r = c .before .before in
     let w = now-at (turn-of r) in
     let i = turn-of r .loop .inv in
-    (i .1 .most, ap (straySeed (w .n)) (r .at-place .ensures) ∙ place-fits (w .n) (w .place) (i .2 .good .place), i .3)
+    (i .1 .two, i .1 .most, ap (straySeed (w .n)) (r .at-place .ensures) ∙ place-fits (w .n) (w .place) (i .2 .good .place), i .3)
 
 -- what the rule at the place says of the state's table is what `take_on` left
 says-at : (c : tie.After-take-on Inv-loop μ-loop) → let w = now-at (turn-of (at-rule c)) in verdict w (ruleAt (w .place)) ≡ record { none = c .take-on .result; left = c .take-on .last .1 .0 }
@@ -92,7 +92,7 @@ removals-requires c κs =
 advance-requires : tie.Need-advance-requires Inv-loop μ-loop
 advance-requires c κs =
     let i = turn-of (at-rule (taken-at c)) .loop .inv in
-    omega (arith, i .2 .good .place, i .1 .most)
+    (i .1 .most, i .2 .good .place)
 
 -- one step more
 turn : (c : tie.After-advance Inv-loop μ-loop)

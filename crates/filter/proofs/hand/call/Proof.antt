@@ -104,7 +104,7 @@ take-requires c κs =
     let e = good-seed (q .before .before .before .before) in
     let s = sure e in
     let len : length (rowsOf (start e .args .work)) ≡ 64 = (let known = start e .good in search needs) in
-    (s .state .most, s .not-stray, record { clean = s .state .table; len = len; columns = q .columns .ensures })
+    (s .state .two, s .state .most, s .not-stray, record { clean = s .state .table; len = len; columns = q .columns .ensures })
 
 by-hand-requires : tie.Need-by-hand-requires
 by-hand-requires c κs =
