@@ -46,7 +46,7 @@ enum loungeegret_number {
 enum {
     LOUNGEEGRET_N = 64,          /* the number of stations */
     LOUNGEEGRET_LIMIT = 65,      /* the separator limit */
-    LOUNGEEGRET_PLACE = 66,      /* the place of the run, 0 to n */
+    LOUNGEEGRET_PLACE = 66,      /* the place of the run, 0 to n + 1 */
     LOUNGEEGRET_MARK = 67,       /* the cycle mark, 0 or 1; any other is a bad work state */
     LOUNGEEGRET_END = 68,        /* one of the ends below; any other is a bad work state */
     LOUNGEEGRET_STATE_WORDS = 69
@@ -82,11 +82,20 @@ uint32_t loungeegret_open(const uint8_t *sheet, size_t sheet_length, size_t limi
 /* A sweep by hand. `*removed` is the number of legs that it removed, 0 where it is refused. */
 uint32_t loungeegret_sweep(uint64_t *state, size_t state_length, uint32_t *removed);
 
+/*
+ * A chain step by hand. `*removed` as for a sweep. A leg is compulsory where it is its station's only leg out or its target's only
+ * leg in. Where two of them leave or enter one station, or some close a loop over fewer than all stations, the end becomes none and
+ * no leg goes; otherwise the leg goes that leads from the end of a chain of them back to its start, unless the chain has all
+ * stations.
+ */
+uint32_t loungeegret_chain(uint64_t *state, size_t state_length, uint32_t *removed);
+
 /* A pass by hand. The seed is the number of a station, from 1. `*removed` as for a sweep. */
 uint32_t loungeegret_pass(uint64_t *state, size_t state_length, size_t seed, uint32_t *removed);
 
 /*
- * A run of at most `budget` steps. `*steps` is the number of steps that it took and `*removed` the number of legs that it removed,
+ * A run of at most `budget` steps, each what stands at the state's place: 0 is a sweep, 1 a chain step, r + 1 a pass with seed r.
+ * `*steps` is the number of steps that it took and `*removed` the number of legs that it removed,
  * both 0 where it is refused. How it ended is in state[LOUNGEEGRET_END].
  *
  * Which budget: 300000 is the program's and is meant to be enough for 64 stations. With a smaller one a run goes in short turns:

@@ -1,4 +1,4 @@
--- What a sweep, a level or a pass says of a table.
+-- What a rule says of a table.
 use mathlib.Core.Path.{_≡_}
 use mathlib.Core.Bool.{true, false}
 use mathlib.Core.List.{List}

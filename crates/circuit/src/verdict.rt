@@ -1,4 +1,4 @@
-// What a sweep, a level or a pass says of a table: none or not, and the rows that are left.
+// What a rule says of a table: none or not, and the rows that are left.
 pub struct Verdict {
     pub none: bool,
     pub left: [u64; 64],

@@ -2,9 +2,9 @@
 use mathlib.Core.Path.{_≡_, refl}
 use mathlib.Core.Bool.{true}
 use Rattle.demands.specs.Definitions.{definitions}
-use Rattle.demands.specs.Examples.{listed, begun, removes, budget, holds, every, nineLegs, ringOfFour, ringOfFive, butterfly, fullOfFour, examples}
+use Rattle.demands.specs.Examples.{listed, begun, removes, budget, holds, every, nineLegs, ringOfFour, ringOfFive, butterfly, fullOfFour, chainOfFour, examples}
 
--- the items with ◆
+-- the items with ◆, and the one of W-201
 pub examples-hold : every examples ≡ true
-unfolding definitions listed begun removes budget holds every nineLegs ringOfFour ringOfFive butterfly fullOfFour examples
+unfolding definitions listed begun removes budget holds every nineLegs ringOfFour ringOfFive butterfly fullOfFour chainOfFour examples
 examples-hold = refl

@@ -1,4 +1,4 @@
--- Rounds from the depot wall: the items with ◆, as one list.
+-- Rounds from the depot wall: the items with ◆ as one list, with the step counts of W-201, and beside them what W-201 was asked for.
 use mathlib.Core.Bool.{Bool, true, false, _&&_, _||_, Bool·beq}
 use mathlib.Core.List.{List, [], _∷_}
 use Prim.Native.Nat.{ℕ, suc}
@@ -15,7 +15,7 @@ use Rattle.circuit.specs.Legs.{tableOf, without, legs}
 use Rattle.circuit.specs.State.{isNone, rowsOf, fresh}
 use Rattle.circuit.specs.Check.{checkCall}
 use Rattle.sheet.specs.Open.{openCall}
-use Rattle.filter.specs.Calls.{sweepCall, passCall, runCall}
+use Rattle.filter.specs.Calls.{sweepCall, chainCall, passCall, runCall}
 
 -- a leg as the paper writes it: stations from 1
 pub data Leg : Type 0 where
@@ -32,6 +32,8 @@ pub data Example : Type 0 where
   counts : Start → ℕ → Example
   -- one sweep removes exactly these legs
   sweeps : Start → List Leg → Example
+  -- the chain step removes exactly these legs, and gives none or not
+  chains : Start → List Leg → Bool → Example
   -- the pass with the seed removes exactly these legs, and gives none or not
   passes : Start → ℕ → List Leg → Bool → Example
   -- the run takes so many steps, and its end has the word
@@ -71,6 +73,7 @@ budget = 300000
 unfoldable pub holds : Example → Bool
 holds (counts s k) = let w = begun s in eqb (legs (w .n) (rowsOf w)) k
 holds (sweeps s ls) = let w = begun s in removes w (sweepCall w) ls false
+holds (chains s ls none) = let w = begun s in removes w (chainCall w) ls none
 holds (passes s seed ls none) = let w = begun s in removes w (passCall w seed) ls none
 holds (runs s steps end) = let r = runCall (begun s) budget in isNumber 0 (r .answer) && eqb (r .steps) steps && isWord end (r .work .end)
 holds (lists s numbers round) = let r = checkCall (begun s) numbers in isNumber 0 (r .answer) && Bool·beq (r .yes) round
@@ -104,21 +107,27 @@ butterfly =
 unfoldable pub fullOfFour : Start
 fullOfFour = sheet (4 ∷ 0 ∷ 0 ∷ 0 ∷ 0 ∷ []) 64
 
--- the items with ◆
+-- the chain 1→2→3→4 among six stations, with the leg 4→1 that closes it
+unfoldable pub chainOfFour : Start
+chainOfFour =
+    table 6 (leg 1 2 ∷ leg 2 3 ∷ leg 3 4 ∷ leg 4 1 ∷ leg 4 5 ∷ leg 4 6 ∷ leg 5 6 ∷ leg 6 5 ∷ leg 5 1 ∷ leg 6 1 ∷ [])
+
+-- the items with ◆, and last the one of W-201
 unfoldable pub examples : List Example
 examples =
     sweeps (sheet nineLegs 64) (leg 1 2 ∷ leg 1 3 ∷ leg 2 1 ∷ [])
     ∷ passes (sheet nineLegs 64) 4 (leg 1 2 ∷ leg 2 1 ∷ []) false
     ∷ passes (sheet nineLegs 1) 4 [] false
     ∷ counts (sheet (3 ∷ 0 ∷ 0 ∷ 0 ∷ []) 64) 6
-    ∷ runs (sheet (3 ∷ 0 ∷ 0 ∷ 0 ∷ []) 64) 4 "stable"
-    ∷ runs (sheet (2 ∷ 0 ∷ 0 ∷ []) 64) 3 "stable"
+    ∷ runs (sheet (3 ∷ 0 ∷ 0 ∷ 0 ∷ []) 64) 5 "stable"
+    ∷ runs (sheet (2 ∷ 0 ∷ 0 ∷ []) 64) 4 "stable"
     ∷ runs (sheet (2 ∷ 4 ∷ 1 ∷ 0 ∷ []) 64) 1 "none"
     ∷ passes ringOfFour 1 [] false
     ∷ passes ringOfFive 1 [] false
     ∷ passes butterfly 1 [] true
-    ∷ runs butterfly 2 "none"
+    ∷ runs butterfly 3 "none"
     ∷ lists fullOfFour (2 ∷ 3 ∷ 4 ∷ 1 ∷ []) true
     ∷ lists fullOfFour (2 ∷ 1 ∷ 4 ∷ 3 ∷ []) false
     ∷ refuses (3 ∷ 12 ∷ []) 3 1
+    ∷ chains chainOfFour (leg 4 1 ∷ []) false
     ∷ []

@@ -1,3 +1,3 @@
 -- Laws of a work state in words.
 pub mod WordsLaws
-pub mod ChainLaws
+pub mod SequenceLaws

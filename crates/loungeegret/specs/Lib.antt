@@ -1,4 +1,4 @@
 -- A work state in lent words, and what the calls leave with a caller in another language.
 pub mod Words
 pub mod Results
-pub mod Chain
+pub mod Sequence

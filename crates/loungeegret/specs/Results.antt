@@ -40,7 +40,7 @@ pub record OpenResult (o : Opened) (s s₁ : List ℕ) (p p₁ r : ℕ) : Type 0
   pub words : s₁ ≡ onState s s (storedIn s (o .work))
   pub place : p₁ ≡ onState s p (o .at)
 
--- a sweep or a pass
+-- a rule called by hand
 pub record CallResult (c : Called) (s s₁ : List ℕ) (k k₁ r : ℕ) : Type 0 where
   pub number : r ≡ onState s noState (number (c .answer))
   pub words : s₁ ≡ onState s s (wordsAfter s (c .answer) (c .work))

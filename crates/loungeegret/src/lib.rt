@@ -14,7 +14,7 @@ ghost use Rattle.circuit.specs.Card.{number};
 ghost use Rattle.circuit.specs.Check.{checkCall};
 ghost use Rattle.sheet.specs.Open.{openCall};
 ghost use Rattle.report.specs.Lines.{reportCall, reportBytes};
-ghost use Rattle.filter.specs.Calls.{sweepCall, passCall, runCall};
+ghost use Rattle.filter.specs.Calls.{sweepCall, chainCall, passCall, runCall};
 ghost use Rattle.output.specs.Program.{programText};
 ghost use Rattle.loungeegret.specs.Words.{stateWords, loaded, storedIn};
 ghost use Rattle.loungeegret.specs.Results.{wordsAfter, OpenResult, CallResult, RunResult, CheckResult, ReportResult, PrintResult};
@@ -146,6 +146,20 @@ pub extern "C" fn loungeegret_sweep(state: &mut [u64], removed: &mut u32) -> u32
     *removed = swept.removed;
     let answer = swept.answer;
     let work = swept.work;
+    hand_back(state, answer, work)
+}
+
+#[no_mangle]
+pub extern "C" fn loungeegret_chain(state: &mut [u64], removed: &mut u32) -> u32
+    ensures { λ r. ⌜ CallResult (chainCall (loaded (now (state .entry)))) (now (state .entry)) (now (state .exit)) (now (removed .entry)) (now (removed .exit)) r ⌝ }
+{
+    if state.len() < STATE_WORDS {
+        return NO_STATE;
+    }
+    let chained = filter::chain(load(state));
+    *removed = chained.removed;
+    let answer = chained.answer;
+    let work = chained.work;
     hand_back(state, answer, work)
 }
 

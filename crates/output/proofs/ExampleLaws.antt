@@ -8,7 +8,7 @@ use Rattle.demands.specs.Examples.{nineLegs}
 use Rattle.output.specs.Program.{openedLine, ranLine, stationLines, takenText, refusedLine, openedText, programText}
 
 -- the sheet of nine legs
-pub nine-legs : programText nineLegs ≡ ascii "stations 6 legs 9\nsteps 14 removed 3 end stable\n1: 4\n2: 5\n3: 6\n4: 2\n5: 3\n6: 1\n"
+pub nine-legs : programText nineLegs ≡ ascii "stations 6 legs 9\nsteps 16 removed 3 end stable\n1: 4\n2: 5\n3: 6\n4: 2\n5: 3\n6: 1\n"
 unfolding definitions nineLegs digits decimal legsTo lineOf linesFrom text openedLine ranLine stationLines takenText openedText programText
 nine-legs = refl
 

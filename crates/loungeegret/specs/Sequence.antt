@@ -1,4 +1,4 @@
--- A chain of calls on the same lent words: what the results of the C functions say of the words, one call after the other.
+-- A sequence of calls on the same lent words: what the results of the C functions say of the words, one call after the other.
 use mathlib.Core.Path.{_≡_}
 use mathlib.Core.List.{List, [], _∷_}
 use Prim.Native.Nat.{ℕ}
@@ -33,6 +33,6 @@ wordsAll s (c ∷ cs) = wordsAll (wordsHanded s c) cs
 
 -- of words s that suffice for a state: after an opening and a list of calls they hold the state of demand 3's sequence, and the words
 -- that follow the state are as they were
-pub record Chained (s sheet : List ℕ) (limit : ℕ) (cs : List Call) : Type 0 where
+pub record InSequence (s sheet : List ℕ) (limit : ℕ) (cs : List Call) : Type 0 where
   pub state : loaded (wordsAll (openedWords s sheet limit) cs) ≡ afterAll (openCall sheet limit .work) cs
   pub rest : drop stateWords (wordsAll (openedWords s sheet limit) cs) ≡ drop stateWords s

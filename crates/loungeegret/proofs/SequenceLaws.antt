@@ -1,4 +1,4 @@
--- A chain of C calls on the same lent words is the chain of calls of demand 3. Assumes nothing.
+-- A sequence of C calls on the same lent words is the sequence of calls of demand 3. Assumes nothing.
 use mathlib.Core.Path.{_≡_, refl, sym, ap, _∙_, subst}
 use mathlib.Core.Logic.{⊎-elim}
 use mathlib.Core.Bool.{true, false}
@@ -28,7 +28,7 @@ use Rattle.demands.specs.Demands.{Refusal}
 use Rattle.demands.proofs.RefusalLaws.{hand-refused, run-refused}
 use Rattle.loungeegret.specs.Words.{stateWords, loaded, stored, storedIn}
 use Rattle.loungeegret.specs.Results.{onState, refuses, wordsAfter}
-use Rattle.loungeegret.specs.Chain.{openedWords, wordsBack, wordsHanded, wordsAll, Chained}
+use Rattle.loungeegret.specs.Sequence.{openedWords, wordsBack, wordsHanded, wordsAll, InSequence}
 use Rattle.loungeegret.proofs.WordsLaws.{length-stored, loaded-stored}
 
 -- words that suffice are written
@@ -97,9 +97,9 @@ unfolding openCall
 opened-long sheet limit =
     cond-elim (λ (o : Opened). length (rowsOf (o .work)) ≡ 64) (outside 1 64 limit) (refused BadLimit 0) (opened (length sheet) limit (readPage sheet)) (λ _. length-replicate {A = ℕ} 64 0) (λ _. read-long (length sheet) limit (readPage sheet))
 
-pub chained : (s sheet : List ℕ) (limit : ℕ) → stateWords ≤ length s → (cs : List Call) → Chained s sheet limit cs
+pub in-sequence : (s sheet : List ℕ) (limit : ℕ) → stateWords ≤ length s → (cs : List Call) → InSequence s sheet limit cs
 unfolding openedWords
-chained s sheet limit h cs =
+in-sequence s sheet limit h cs =
     let w = openCall sheet limit .work in
     let begun : Holds s (openedWords s sheet limit) w =
     subst (λ (x : List ℕ). Holds s x w) (sym (on-state s s (storedIn s w) h)) (stored-holds s s w refl (opened-long sheet limit)) in
