@@ -94,9 +94,9 @@ uint32_t loungeegret_chain(uint64_t *state, size_t state_length, uint32_t *remov
 uint32_t loungeegret_pass(uint64_t *state, size_t state_length, size_t seed, uint32_t *removed);
 
 /*
- * A run of at most `budget` steps, each what stands at the state's place: 0 is a sweep, 1 a chain step, r + 1 a pass with seed r.
- * `*steps` is the number of steps that it took and `*removed` the number of legs that it removed,
- * both 0 where it is refused. How it ended is in state[LOUNGEEGRET_END].
+ * A run of at most `budget` steps. A step is a sweep at place 0, a chain step at place 1, and a pass with seed r at place r + 1.
+ * `*steps` is the number of steps that it took and `*removed` the number of legs that it removed, both 0 where it is refused. How
+ * it ended is in state[LOUNGEEGRET_END].
  *
  * Which budget: 300000 is the program's and is meant to be enough for 64 stations. With a smaller one a run goes in short turns:
  * where the end is still LOUNGEEGRET_OPEN the budget is used up, and the same call again goes on from there.

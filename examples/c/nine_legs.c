@@ -49,6 +49,7 @@ static int prune(const uint8_t *sheet, size_t sheet_length)
         printf("refused %u at %zu\n", (unsigned)number, place);
         return 1;
     }
+    /* Sweeps, chain steps and passes, until nothing changes; each can also be called by hand. */
     if (loungeegret_run(state, LOUNGEEGRET_STATE_WORDS, 300000, &steps, &removed) != LOUNGEEGRET_TAKEN)
         return fail("the run is refused");
     puts(words[state[LOUNGEEGRET_END]]);

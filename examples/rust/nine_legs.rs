@@ -85,6 +85,7 @@ fn prune(sheet: &[u8], out: &mut impl Write) -> io::Result<u8> {
         writeln!(out, "refused {number} at {place}")?;
         return Ok(1);
     }
+    // Sweeps, chain steps and passes, until nothing changes; each can also be called by hand.
     let number = unsafe {
         let words = state.as_mut_ptr();
         loungeegret_run(words, state.len(), 300000, &mut steps, &mut removed)
