@@ -35,8 +35,8 @@ module _ {n : ℕ} {f g : ℕ → ℕ} (m : Mates n f g) where
   same-start k a b l e = sym (undo k a (subst (λ (x : ℕ). x < n) (sym e) l)) ∙ ap (iter g k) e ∙ undo k b l
 
   -- k steps lead from a to b where k steps back lead from b to a
-  pub turned : (k a b : ℕ) → a < n → b < n → iter f k a ≡ b → iter g k b ≡ a
-  turned k a b la lb e = ap (iter g k) (sym e) ∙ undo k a (subst (λ (x : ℕ). x < n) (sym e) lb)
+  pub turned : (k a b : ℕ) → b < n → iter f k a ≡ b → iter g k b ≡ a
+  turned k a b l e = ap (iter g k) (sym e) ∙ undo k a (subst (λ (x : ℕ). x < n) (sym e) l)
 
   -- a walk that comes back to c has a step into c
   pub entered : (d c : ℕ) → 0 < d → c < n → iter f d c ≡ c → g c < n
