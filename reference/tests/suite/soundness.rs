@@ -61,7 +61,7 @@ impl Watched {
 }
 
 /// Every table of n stations.
-fn all_tables(n: usize) -> impl Iterator<Item = LegTable> {
+pub fn all_tables(n: usize) -> impl Iterator<Item = LegTable> {
     let legs = LegTable::full(n).legs();
     (0..1_u32 << legs.len()).map(move |code| {
         let kept = legs.iter().enumerate();
