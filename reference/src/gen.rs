@@ -135,6 +135,20 @@ pub fn ring(n: usize) -> LegTable {
     LegTable::from_legs(n, (1..=n).map(|i| (i, i % n + 1)))
 }
 
+/// All legs of n stations, but station 1 leads only to 2, 2 only to 3 and so on up
+/// to station `length`, which nothing else holds.
+pub fn chain_among(length: usize, n: usize) -> LegTable {
+    let decided = |(i, j): &Leg| *i >= length || *j == i + 1;
+    LegTable::from_legs(n, LegTable::full(n).legs().into_iter().filter(decided))
+}
+
+/// The same, and station `length` leads only to 1.
+pub fn loop_among(length: usize, n: usize) -> LegTable {
+    let decided = |(i, j): &Leg| *i != length || *j == 1;
+    let legs = chain_among(length, n).legs();
+    LegTable::from_legs(n, legs.into_iter().filter(decided))
+}
+
 /// Adds the legs of a random round and says which: entry i−1 follows station i.
 pub fn plant_round(rng: &mut Xorshift, table: &mut LegTable) -> Vec<usize> {
     let round = random_round(rng, table.n());

@@ -97,6 +97,10 @@ impl Calls for Faulty {
         swept
     }
 
+    fn chain(&self, state: WorkState) -> Handled {
+        Fast.chain(state)
+    }
+
     fn pass(&self, state: WorkState, seed: u64) -> Handled {
         if matches!(self.0, Fault::LimitIgnored) && state.limit < 64 && !Fast.bad(&state) {
             let mut passed = Fast.pass(WorkState { limit: 64, ..state }, seed);
