@@ -4,12 +4,10 @@
 use std::collections::BTreeSet;
 
 use reference::chain::{chain_table, compulsory_legs};
-use reference::gen::{any_table, Xorshift};
+use reference::gen::{all_tables, any_table, Xorshift};
 use reference::hand::Verdict;
 use reference::table::Leg;
 use reference::LegTable;
-
-use crate::soundness::all_tables;
 
 /// The rule word by word: nothing for none, else the legs that go.
 fn by_the_words(table: &LegTable) -> Option<BTreeSet<Leg>> {

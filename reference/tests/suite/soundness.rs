@@ -3,7 +3,7 @@
 
 use std::collections::BTreeSet;
 
-use reference::gen::{any_table, Xorshift};
+use reference::gen::{all_tables, any_table, Xorshift};
 use reference::rounds::drivable_legs;
 use reference::{chain, pass, run, sweep, End, LegTable, WorkState};
 
@@ -62,16 +62,6 @@ impl Watched {
         self.accept(ran.state, ran.removed);
         assert_ne!(self.state.end, End::Open);
     }
-}
-
-/// Every table of n stations.
-pub fn all_tables(n: usize) -> impl Iterator<Item = LegTable> {
-    let legs = LegTable::full(n).legs();
-    (0..1_u32 << legs.len()).map(move |code| {
-        let kept = legs.iter().enumerate();
-        let kept = kept.filter(|(at, _)| code >> at & 1 == 1);
-        LegTable::from_legs(n, kept.map(|(_, &leg)| leg))
-    })
 }
 
 #[test]
