@@ -203,9 +203,7 @@ impl Session<'_> {
     /// and more calls on the ended state: some of any kind, then reports into
     /// buffers of every length that matters.
     fn sequence(&mut self) -> Found<()> {
-        let opened = self.state;
-        self.call(Call::Chain)?;
-        self.put(opened);
+        self.chain_and_back()?;
         for _ in 0..self.rng.between(4, 9) {
             match self.rng.below(12) {
                 0 => self.bad_state()?,
@@ -221,6 +219,14 @@ impl Session<'_> {
         for length in draw::report_lengths(&self.state) {
             self.call(Call::Report { length })?;
         }
+        Ok(())
+    }
+
+    /// A chain step that the following calls don't see.
+    fn chain_and_back(&mut self) -> Found<()> {
+        let kept = self.state;
+        self.call(Call::Chain)?;
+        self.put(kept);
         Ok(())
     }
 
@@ -252,6 +258,7 @@ impl Session<'_> {
         self.call(Call::Open { limit: 64 })?;
         let moved = draw::moved(&mut self.rng, &self.state);
         self.put(moved);
+        self.chain_and_back()?;
         for _ in 0..4 {
             self.any_call()?;
         }
