@@ -6,11 +6,12 @@ use crate::list::Checked;
 use crate::run::Ran;
 use crate::sheet::Opened;
 use crate::state::WorkState;
-use crate::{fast, lines, list, pass, program, run, sheet, state, sweep};
+use crate::{chain, fast, lines, list, pass, program, run, sheet, state, sweep};
 
 pub trait Calls {
     fn open(&self, sheet: &[u8], limit: u64) -> Opened;
     fn sweep(&self, state: WorkState) -> Handled;
+    fn chain(&self, state: WorkState) -> Handled;
     fn pass(&self, state: WorkState, seed: u64) -> Handled;
     fn run(&self, state: WorkState, budget: u32) -> Ran;
     fn list_check(&self, state: &WorkState, numbers: &[u8]) -> Checked;
@@ -32,6 +33,10 @@ impl Calls for Plain {
 
     fn sweep(&self, state: WorkState) -> Handled {
         sweep::sweep(state)
+    }
+
+    fn chain(&self, state: WorkState) -> Handled {
+        chain::chain(state)
     }
 
     fn pass(&self, state: WorkState, seed: u64) -> Handled {
@@ -66,6 +71,10 @@ impl Calls for Fast {
 
     fn sweep(&self, state: WorkState) -> Handled {
         fast::sweep(state)
+    }
+
+    fn chain(&self, state: WorkState) -> Handled {
+        fast::chain(state)
     }
 
     fn pass(&self, state: WorkState, seed: u64) -> Handled {

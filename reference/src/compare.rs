@@ -15,7 +15,9 @@ use self::difference::Step;
 use self::made::Known;
 use self::watch::Watch;
 use crate::calls::{Calls, Fast, Plain};
+use crate::card;
 use crate::gen::Xorshift;
+use crate::hand::Handled;
 use crate::program;
 use crate::state::{End, WorkState};
 
@@ -38,6 +40,39 @@ pub struct Counts {
     pub ended_none: u64,
     /// Sequences on a table with a known round.
     pub watched: u64,
+    pub chains: ChainCounts,
+}
+
+/// Chain steps by hand that were not refused, by what they did.
+#[derive(Clone, Debug, Default, PartialEq, Eq)]
+pub struct ChainCounts {
+    pub struck: u64,
+    pub none: u64,
+    pub left: u64,
+    /// Calls on states whose end was none before.
+    pub ended: u64,
+}
+
+impl ChainCounts {
+    fn add(&mut self, other: &ChainCounts) {
+        self.struck += other.struck;
+        self.none += other.none;
+        self.left += other.left;
+        self.ended += other.ended;
+    }
+
+    fn note(&mut self, before: &WorkState, chained: &Handled) {
+        let count = if before.end == End::None {
+            &mut self.ended
+        } else if chained.state.end == End::None {
+            &mut self.none
+        } else if chained.removed > 0 {
+            &mut self.struck
+        } else {
+            &mut self.left
+        };
+        *count += 1;
+    }
 }
 
 impl Counts {
@@ -52,6 +87,7 @@ impl Counts {
         self.ended_stable += other.ended_stable;
         self.ended_none += other.ended_none;
         self.watched += other.watched;
+        self.chains.add(&other.chains);
     }
 
     fn note(&mut self, answer: &Answer) {
@@ -163,9 +199,11 @@ impl Session<'_> {
         Ok(())
     }
 
-    /// Calls in any order, the whole run, and more calls on the ended state:
-    /// some of any kind, then reports into buffers of every length that matters.
+    /// A chain step on the opened state, then calls in any order, the whole run,
+    /// and more calls on the ended state: some of any kind, then reports into
+    /// buffers of every length that matters.
     fn sequence(&mut self) -> Found<()> {
+        self.chain_and_back()?;
         for _ in 0..self.rng.between(4, 9) {
             match self.rng.below(12) {
                 0 => self.bad_state()?,
@@ -181,6 +219,14 @@ impl Session<'_> {
         for length in draw::report_lengths(&self.state) {
             self.call(Call::Report { length })?;
         }
+        Ok(())
+    }
+
+    /// A chain step that the following calls don't see.
+    fn chain_and_back(&mut self) -> Found<()> {
+        let kept = self.state;
+        self.call(Call::Chain)?;
+        self.put(kept);
         Ok(())
     }
 
@@ -212,6 +258,7 @@ impl Session<'_> {
         self.call(Call::Open { limit: 64 })?;
         let moved = draw::moved(&mut self.rng, &self.state);
         self.put(moved);
+        self.chain_and_back()?;
         for _ in 0..4 {
             self.any_call()?;
         }
@@ -246,6 +293,11 @@ impl Session<'_> {
         }
         if with_plain && answer != self.make(&call, &Plain) {
             return Err(self.difference("the plain answer differs", &answer));
+        }
+        if let (Call::Chain, Answer::Handled(chained)) = (&call, &answer) {
+            if chained.number == card::TAKEN {
+                self.counts.chains.note(&self.state, chained);
+            }
         }
         if let Some(state) = answer.state() {
             if let Some(fault) = self.watch.fault(state) {

@@ -5,6 +5,7 @@
 //! bare from one matching for each direction.
 
 mod bits;
+mod chain;
 mod grid;
 mod lines;
 mod list;
@@ -13,19 +14,21 @@ mod sheet;
 mod sweep;
 
 use self::bits::{all_stations, bit};
+use self::chain::chain_rows;
 use self::grid::Grid;
 use self::sweep::sweep_rows;
 use crate::card::{self, Number};
 use crate::hand::{self, Handled};
 use crate::run::Ran;
-use crate::state::{good_limit, End, WorkState};
+use crate::state::{good_limit, last_place, End, WorkState};
 
 pub use self::lines::report;
 pub use self::list::list_check;
 pub use self::sheet::open;
 
 pub fn bad(state: &WorkState) -> bool {
-    if !(2..=64).contains(&state.n) || !good_limit(state.limit) || state.place > state.n {
+    if !(2..=64).contains(&state.n) || !good_limit(state.limit) || state.place > last_place(state.n)
+    {
         return true;
     }
     let n = state.n as usize;
@@ -38,7 +41,7 @@ pub fn bad(state: &WorkState) -> bool {
     stray != 0
 }
 
-/// What a sweep or pass did: the legs it removed, and whether its verdict was
+/// What a step did: the legs it removed, and whether its verdict was
 /// none.
 #[derive(Clone, Copy)]
 struct Outcome {
@@ -51,16 +54,31 @@ impl Outcome {
         removed: 0,
         none: false,
     };
+
+    const NONE: Outcome = Outcome {
+        removed: 0,
+        none: true,
+    };
 }
 
-pub fn sweep(mut state: WorkState) -> Handled {
+pub fn sweep(state: WorkState) -> Handled {
+    by_rows(state, sweep_rows)
+}
+
+pub fn chain(state: WorkState) -> Handled {
+    by_rows(state, chain_rows)
+}
+
+/// A step that works on the rows of all stations alone, called by hand.
+#[inline]
+fn by_rows(mut state: WorkState, step: fn(&mut [u64]) -> Outcome) -> Handled {
     if bad(&state) {
         return hand::refused(card::BAD_WORK_STATE, state);
     }
     if state.end == End::None {
         return by_hand(state, Outcome::NOTHING);
     }
-    let outcome = sweep_rows(&mut state.rows[..state.n as usize]);
+    let outcome = step(&mut state.rows[..state.n as usize]);
     by_hand(state, outcome)
 }
 
@@ -135,7 +153,7 @@ fn advance(state: &mut WorkState, outcome: Outcome) {
         return;
     }
     state.mark |= outcome.removed > 0;
-    if state.place < state.n {
+    if state.place < last_place(state.n) {
         state.place += 1;
         return;
     }

@@ -80,10 +80,22 @@ pub enum Family {
     /// Few hubs and hardly more single stations between them, so that
     /// components and stations of a separator just balance.
     Hubs,
+    /// One round, of which a leg may be missing, and hardly any other leg.
+    RingWithFewChords,
+    /// Roads away from one station, driven one way, and a few legs more.
+    OneWayTree,
+    /// Chains with the legs that close them, and legs from their ends to their
+    /// starts.
+    ClosingLegs,
+    /// Loops over a few stations each, and a few legs between them.
+    SmallLoops,
+    /// No two stations lead to the same one, apart from a few legs more.
+    Permutation,
 }
 
 impl Family {
-    pub const ALL: [Family; 12] = [
+    /// The ones that passes have much to do on.
+    pub const FOR_PASSES: [Family; 12] = [
         Family::Full,
         Family::Sparse,
         Family::Medium,
@@ -97,6 +109,24 @@ impl Family {
         Family::Islands,
         Family::Hubs,
     ];
+
+    /// The ones in which compulsory legs are common.
+    pub const FOR_CHAINS: [Family; 5] = [
+        Family::RingWithFewChords,
+        Family::OneWayTree,
+        Family::ClosingLegs,
+        Family::SmallLoops,
+        Family::Permutation,
+    ];
+
+    /// One of all families.
+    pub fn any(rng: &mut Xorshift) -> Family {
+        let for_passes = Family::FOR_PASSES.len();
+        match rng.below(for_passes + Family::FOR_CHAINS.len()) {
+            at if at < for_passes => Family::FOR_PASSES[at],
+            at => Family::FOR_CHAINS[at - for_passes],
+        }
+    }
 
     /// A table of n stations of this family.
     pub fn table(self, rng: &mut Xorshift, n: usize) -> LegTable {
@@ -113,14 +143,29 @@ impl Family {
             Family::OneWayRoads => one_way_roads(rng, n),
             Family::Islands => islands(rng, n),
             Family::Hubs => hubs(rng, n),
+            Family::RingWithFewChords => ring_with_few_chords(rng, n),
+            Family::OneWayTree => one_way_tree(rng, n),
+            Family::ClosingLegs => closing_legs(rng, n),
+            Family::SmallLoops => small_loops(rng, n),
+            Family::Permutation => permutation(rng, n),
         }
     }
 }
 
 /// A table of any family.
 pub fn any_table(rng: &mut Xorshift, n: usize) -> LegTable {
-    let family = rng.pick(&Family::ALL);
+    let family = Family::any(rng);
     family.table(rng, n)
+}
+
+/// Every table of n stations.
+pub fn all_tables(n: usize) -> impl Iterator<Item = LegTable> {
+    let legs = LegTable::full(n).legs();
+    (0..1_u32 << legs.len()).map(move |code| {
+        let kept = legs.iter().enumerate();
+        let kept = kept.filter(|(at, _)| code >> at & 1 == 1);
+        LegTable::from_legs(n, kept.map(|(_, &leg)| leg))
+    })
 }
 
 /// Each leg with the same chance, in percent.
@@ -133,6 +178,20 @@ pub fn random(rng: &mut Xorshift, n: usize, density: usize) -> LegTable {
 /// The round 1→2→…→n→1 and nothing else.
 pub fn ring(n: usize) -> LegTable {
     LegTable::from_legs(n, (1..=n).map(|i| (i, i % n + 1)))
+}
+
+/// All legs of n stations, but station 1 leads only to 2, that one only to 3 and so
+/// on up to station `length`.
+pub fn chain_among(length: usize, n: usize) -> LegTable {
+    let decided = |(i, j): &Leg| *i >= length || *j == i + 1;
+    LegTable::from_legs(n, LegTable::full(n).legs().into_iter().filter(decided))
+}
+
+/// The same, and station `length` leads only to 1.
+pub fn loop_among(length: usize, n: usize) -> LegTable {
+    let decided = |(i, j): &Leg| *i != length || *j == 1;
+    let legs = chain_among(length, n).legs();
+    LegTable::from_legs(n, legs.into_iter().filter(decided))
 }
 
 /// Adds the legs of a random round and says which: entry i−1 follows station i.
@@ -207,13 +266,20 @@ fn shuffled(rng: &mut Xorshift, table: &LegTable) -> LegTable {
 
 fn ring_with_chords(rng: &mut Xorshift, n: usize) -> LegTable {
     let mut table = shuffled(rng, &ring(n));
-    for _ in 0..rng.between(1, n) {
+    let count = rng.between(1, n);
+    add_legs(rng, &mut table, count);
+    table
+}
+
+/// Adds up to so many legs.
+fn add_legs(rng: &mut Xorshift, table: &mut LegTable, count: usize) {
+    let n = table.n();
+    for _ in 0..count {
         let (i, j) = (rng.between(1, n), rng.between(1, n));
         if i != j {
             table.add(i, j);
         }
     }
-    table
 }
 
 /// Rungs join the stations at the same distance from station 1. A dead end is
@@ -322,6 +388,88 @@ fn hubs(rng: &mut Xorshift, n: usize) -> LegTable {
     shuffled(rng, &table)
 }
 
+fn ring_with_few_chords(rng: &mut Xorshift, n: usize) -> LegTable {
+    let mut table = ring(n);
+    if rng.percent(30) {
+        table.strike(&[(n, 1)]);
+    }
+    let count = rng.below(4);
+    add_legs(rng, &mut table, count);
+    shuffled(rng, &table)
+}
+
+/// Mostly a station follows the one before it, else one of some more before.
+fn one_way_tree(rng: &mut Xorshift, n: usize) -> LegTable {
+    let mut table = LegTable::empty(n);
+    for station in 2..=n {
+        let back = if rng.percent(75) {
+            1
+        } else {
+            rng.between(1, 4)
+        };
+        table.add(station.saturating_sub(back).max(1), station);
+    }
+    let count = rng.below(n);
+    add_legs(rng, &mut table, count);
+    shuffled(rng, &table)
+}
+
+/// Stations in a row, cut into groups of two to six; the last may be smaller.
+fn short_groups(rng: &mut Xorshift, n: usize) -> Vec<RangeInclusive<usize>> {
+    let mut groups = Vec::new();
+    let mut start = 1;
+    while start <= n {
+        let end = (start + rng.between(1, 5)).min(n);
+        groups.push(start..=end);
+        start = end + 1;
+    }
+    groups
+}
+
+/// A leg from each station of a group to the next one.
+fn legs_along(group: &RangeInclusive<usize>) -> impl Iterator<Item = Leg> {
+    (*group.start()..*group.end()).map(|i| (i, i + 1))
+}
+
+fn closing_legs(rng: &mut Xorshift, n: usize) -> LegTable {
+    let groups = short_groups(rng, n);
+    let mut table = LegTable::from_legs(n, groups.iter().flat_map(legs_along));
+    let density = rng.pick(&[50, 80, 100]);
+    for from in &groups {
+        for to in &groups {
+            if from.end() != to.start() && rng.percent(density) {
+                table.add(*from.end(), *to.start());
+            }
+        }
+    }
+    let count = rng.below(n.div_ceil(4));
+    add_legs(rng, &mut table, count);
+    shuffled(rng, &table)
+}
+
+fn small_loops(rng: &mut Xorshift, n: usize) -> LegTable {
+    let mut table = LegTable::empty(n);
+    for group in short_groups(rng, n) {
+        let closing = (*group.end(), *group.start());
+        let closed = legs_along(&group).chain([closing]);
+        for (i, j) in closed.filter(|(i, j)| i != j) {
+            table.add(i, j);
+        }
+    }
+    let count = rng.below(2 * n);
+    add_legs(rng, &mut table, count);
+    shuffled(rng, &table)
+}
+
+fn permutation(rng: &mut Xorshift, n: usize) -> LegTable {
+    let order = rng.order(n).into_iter().enumerate();
+    let legs = order.map(|(at, next)| (at + 1, next));
+    let mut table = LegTable::from_legs(n, legs.filter(|(i, j)| i != j));
+    let count = rng.below(n);
+    add_legs(rng, &mut table, count);
+    table
+}
+
 /// One record of a sheet, fields as they are written.
 #[derive(Clone, Copy, Debug, Default)]
 pub struct Record {
@@ -376,6 +524,22 @@ impl Sheet {
         for (at, row) in table.rows()[..table.n()].iter().enumerate() {
             if *row != full[at] {
                 sheet.records[at].next = Some(*row);
+            }
+        }
+        sheet
+    }
+
+    /// The shortest sheet that gives a table without previous sets: a row of one
+    /// leg is fixed, and a full one needs no field.
+    pub fn short(table: &LegTable) -> Sheet {
+        let mut sheet = Sheet::of(table);
+        for (record, i) in sheet.records.iter_mut().zip(table.stations()) {
+            let only = table.successors(i).first();
+            if let Some(&next) = only.filter(|_| table.successors(i).len() == 1) {
+                *record = Record {
+                    fixed: Some(next as u8),
+                    ..Record::default()
+                };
             }
         }
         sheet

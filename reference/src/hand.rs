@@ -1,4 +1,4 @@
-//! What a sweep or pass called by hand does to the work state.
+//! What a sweep, chain step or pass called by hand does to the work state.
 
 use crate::card::{self, Number};
 use crate::state::{End, WorkState};
@@ -11,7 +11,7 @@ pub struct Handled {
     pub removed: u64,
 }
 
-/// What a sweep or pass says of the table, apart from the legs it struck.
+/// What a step says of the table, apart from the legs it struck.
 #[derive(Clone, Copy, Debug, PartialEq, Eq)]
 pub enum Verdict {
     None,

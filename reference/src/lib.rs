@@ -8,6 +8,7 @@
 
 pub mod calls;
 pub mod card;
+pub mod chain;
 pub mod choices;
 pub mod compare;
 pub mod fast;
@@ -32,6 +33,7 @@ pub mod vectors;
 pub mod words;
 
 pub use calls::{Calls, Fast, Plain};
+pub use chain::chain;
 pub use hand::Handled;
 #[cfg(feature = "library")]
 pub use library::Library;

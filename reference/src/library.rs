@@ -28,6 +28,7 @@ mod ffi {
             place: *mut usize,
         ) -> u32;
         pub fn loungeegret_sweep(state: *mut u64, state_len: usize, removed: *mut u32) -> u32;
+        pub fn loungeegret_chain(state: *mut u64, state_len: usize, removed: *mut u32) -> u32;
         pub fn loungeegret_pass(
             state: *mut u64,
             state_len: usize,
@@ -83,6 +84,10 @@ pub mod raw {
         unsafe { ffi::loungeegret_sweep(state.as_mut_ptr(), state.len(), removed) }
     }
 
+    pub fn chain(state: &mut [u64], removed: &mut u32) -> u32 {
+        unsafe { ffi::loungeegret_chain(state.as_mut_ptr(), state.len(), removed) }
+    }
+
     pub fn pass(state: &mut [u64], seed: usize, removed: &mut u32) -> u32 {
         unsafe { ffi::loungeegret_pass(state.as_mut_ptr(), state.len(), seed, removed) }
     }
@@ -124,25 +129,17 @@ impl Calls for Library {
     }
 
     fn sweep(&self, state: WorkState) -> Handled {
-        let mut words = to_words(&state);
-        let mut removed = u32::MAX;
-        let answer = raw::sweep(&mut words, &mut removed);
-        Handled {
-            number: number(answer),
-            state: handed_back(&words),
-            removed: u64::from(removed),
-        }
+        by_hand(&state, raw::sweep)
+    }
+
+    fn chain(&self, state: WorkState) -> Handled {
+        by_hand(&state, raw::chain)
     }
 
     fn pass(&self, state: WorkState, seed: u64) -> Handled {
-        let mut words = to_words(&state);
-        let mut removed = u32::MAX;
-        let answer = raw::pass(&mut words, seed as usize, &mut removed);
-        Handled {
-            number: number(answer),
-            state: handed_back(&words),
-            removed: u64::from(removed),
-        }
+        by_hand(&state, |words, removed| {
+            raw::pass(words, seed as usize, removed)
+        })
     }
 
     fn run(&self, state: WorkState, budget: u32) -> Ran {
@@ -188,6 +185,17 @@ impl Calls for Library {
     /// a bad state.
     fn bad(&self, state: &WorkState) -> bool {
         self.sweep(*state).number == card::BAD_WORK_STATE
+    }
+}
+
+fn by_hand(state: &WorkState, call: impl FnOnce(&mut [u64], &mut u32) -> u32) -> Handled {
+    let mut words = to_words(state);
+    let mut removed = u32::MAX;
+    let answer = call(&mut words, &mut removed);
+    Handled {
+        number: number(answer),
+        state: handed_back(&words),
+        removed: u64::from(removed),
     }
 }
 

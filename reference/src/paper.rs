@@ -17,7 +17,7 @@ pub const NINE_LEGS: [u8; 27] = [
 /// What the program prints for the nine legs.
 pub const NINE_LEGS_OUTPUT: &str = "\
 stations 6 legs 9
-steps 14 removed 3 end stable
+steps 16 removed 3 end stable
 1: 4
 2: 5
 3: 6

@@ -1,6 +1,8 @@
-//! The run with a budget: sweep, then a pass from each station, over and over.
+//! The run with a budget: sweep, chain step, then a pass from each station, over
+//! and over.
 
 use crate::card::{self, Number};
+use crate::chain::chain_table;
 use crate::hand::Verdict;
 use crate::pass::pass_table;
 use crate::state::{self, End, WorkState};
@@ -45,7 +47,8 @@ fn step(table: &mut LegTable, state: &mut WorkState) {
     let before = table.leg_count();
     let verdict = match state.place {
         0 => sweep_table(table),
-        seed => pass_table(table, seed as usize, state.limit as usize),
+        1 => chain_table(table),
+        place => pass_table(table, place as usize - 1, state.limit as usize),
     };
     if verdict == Verdict::None {
         state.end = End::None;
@@ -54,7 +57,7 @@ fn step(table: &mut LegTable, state: &mut WorkState) {
     if table.leg_count() < before {
         state.mark = true;
     }
-    if state.place < state.n {
+    if state.place < state::last_place(state.n) {
         state.place += 1;
         return;
     }

@@ -9,6 +9,7 @@
 //! | `O` open | limit u64, length u16, sheet bytes |
 //! | `W` work state | n, limit, place u64, mark u8, end u8, 64 rows u64 |
 //! | `S` sweep | |
+//! | `C` chain step | |
 //! | `P` pass | seed u64 |
 //! | `R` run | budget u32 |
 //! | `L` list check | length u16, numbers one byte each |
@@ -63,6 +64,10 @@ impl Script {
         self.bytes.push(b'S');
     }
 
+    pub fn chain(&mut self) {
+        self.bytes.push(b'C');
+    }
+
     pub fn pass(&mut self, seed: u64) {
         self.bytes.push(b'P');
         self.bytes.extend(seed.to_le_bytes());
@@ -96,6 +101,7 @@ enum Command<'a> {
     Open { limit: u64, sheet: &'a [u8] },
     Work(Box<WorkState>),
     Sweep,
+    Chain,
     Pass { seed: u64 },
     Run { budget: u32 },
     List { numbers: &'a [u8] },
@@ -117,6 +123,7 @@ impl<'a> Reader<'a> {
             },
             b'W' => Command::Work(Box::new(self.state()?)),
             b'S' => Command::Sweep,
+            b'C' => Command::Chain,
             b'P' => Command::Pass { seed: self.word()? },
             b'R' => Command::Run {
                 budget: u32::from_le_bytes(self.array()?),
@@ -221,6 +228,11 @@ fn answer(
             let swept = calls.sweep(*state);
             *state = swept.state;
             writeln!(out, "sweep {} removed {}", swept.number, swept.removed)?;
+        }
+        Command::Chain => {
+            let chained = calls.chain(*state);
+            *state = chained.state;
+            writeln!(out, "chain {} removed {}", chained.number, chained.removed)?;
         }
         Command::Pass { seed } => {
             let passed = calls.pass(*state, seed);

@@ -101,10 +101,16 @@ pub fn good_limit(limit: u64) -> bool {
     (SMALLEST_LIMIT..=LARGEST_LIMIT).contains(&limit)
 }
 
+/// The place where a cycle ends: after the sweep at 0 and the chain step at 1
+/// comes a pass from each station.
+pub fn last_place(n: u64) -> u64 {
+    n + 1
+}
+
 pub fn bad(state: &WorkState) -> bool {
     !(FEWEST_STATIONS..=MOST_STATIONS).contains(&state.n)
         || !good_limit(state.limit)
-        || state.place > state.n
+        || state.place > last_place(state.n)
         || has_stray_leg(state.n as usize, &state.rows)
 }
 

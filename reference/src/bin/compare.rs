@@ -123,6 +123,11 @@ fn tell(seed: u64, sheets: u64, counts: &Counts) {
         "  {} legs removed, {} runs to stable, {} to none, {} lists confirmed",
         counts.legs_removed, counts.ended_stable, counts.ended_none, counts.rounds_confirmed
     );
+    let chains = &counts.chains;
+    println!(
+        "  chain steps by hand: {} struck legs, {} gave none, {} left the table, {} came after none",
+        chains.struck, chains.none, chains.left, chains.ended
+    );
 }
 
 fn tell_difference(seed: u64, (index, difference): &Found) {

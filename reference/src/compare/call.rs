@@ -15,6 +15,7 @@ use crate::state::WorkState;
 pub enum Call {
     Open { limit: u64 },
     Sweep,
+    Chain,
     Pass { seed: u64 },
     Run { budget: u32 },
     List { numbers: Vec<u8> },
@@ -38,6 +39,7 @@ impl Call {
         match self {
             Call::Open { limit } => Answer::Opened(calls.open(sheet, *limit)),
             Call::Sweep => Answer::Handled(calls.sweep(*state)),
+            Call::Chain => Answer::Handled(calls.chain(*state)),
             Call::Pass { seed } => Answer::Handled(calls.pass(*state, *seed)),
             Call::Run { budget } => Answer::Ran(calls.run(*state, *budget)),
             Call::List { numbers } => Answer::Checked(calls.list_check(state, numbers)),
@@ -94,6 +96,7 @@ impl fmt::Display for Call {
         match self {
             Call::Open { limit } => write!(out, "open with limit {limit}"),
             Call::Sweep => write!(out, "sweep"),
+            Call::Chain => write!(out, "chain step"),
             Call::Pass { seed } => write!(out, "pass with seed {seed}"),
             Call::Run { budget } => write!(out, "run with budget {budget}"),
             Call::List { numbers } => write!(out, "list check of {numbers:?}"),

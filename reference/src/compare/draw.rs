@@ -4,7 +4,7 @@ use super::call::Call;
 use crate::fast;
 use crate::gen::{random_round, Xorshift, WIDE_NUMBERS};
 use crate::program::PRINT_MOST;
-use crate::state::{End, WorkState};
+use crate::state::{last_place, End, WorkState};
 
 /// The lines of the full table of 64 stations are shorter.
 const LONGEST_TEXT: usize = 16_384;
@@ -28,19 +28,21 @@ pub fn bad_limit(rng: &mut Xorshift) -> u64 {
 /// A call on a state. The known rounds are rounds of its table or of an earlier
 /// one.
 pub fn call(rng: &mut Xorshift, state: &WorkState, rounds: &[Vec<usize>]) -> Call {
-    match rng.below(20) {
+    match rng.below(24) {
         0..=2 => Call::Sweep,
-        3..=9 => pass(rng, state),
-        10..=13 => run(rng, state),
-        14..=16 => list(rng, state, rounds),
+        3..=6 => Call::Chain,
+        7..=13 => pass(rng, state),
+        14..=17 => run(rng, state),
+        18..=20 => list(rng, state, rounds),
         _ => report(rng, state),
     }
 }
 
 /// One call of each kind.
-pub fn each_call(rng: &mut Xorshift, state: &WorkState, rounds: &[Vec<usize>]) -> [Call; 5] {
+pub fn each_call(rng: &mut Xorshift, state: &WorkState, rounds: &[Vec<usize>]) -> [Call; 6] {
     [
         Call::Sweep,
+        Call::Chain,
         pass(rng, state),
         run(rng, state),
         list(rng, state, rounds),
@@ -150,7 +152,7 @@ pub fn spoilt(rng: &mut Xorshift, state: &WorkState) -> WorkState {
     match rng.below(6) {
         0 => spoilt.n = wrong_number(rng, &[0, 1, 65, state.n + (1 << 32)]),
         1 => spoilt.limit = wrong_number(rng, &[0, 65, 64 + (1 << 32)]),
-        2 => spoilt.place = wrong_number(rng, &[state.n + 1, 65, 1 << 32]),
+        2 => spoilt.place = wrong_number(rng, &[last_place(state.n) + 1, 66, 1 << 32]),
         3 if n < 64 => spoilt.rows[rng.between(n, 63)] |= 1 << rng.below(n),
         4 if n < 64 => spoilt.rows[rng.below(n)] |= 1 << rng.between(n, 63),
         _ => {
@@ -173,7 +175,7 @@ fn wrong_number(rng: &mut Xorshift, near: &[u64]) -> u64 {
 /// The same table at any place, with any mark and end.
 pub fn moved(rng: &mut Xorshift, state: &WorkState) -> WorkState {
     WorkState {
-        place: rng.below(state.n as usize + 1) as u64,
+        place: rng.below(last_place(state.n) as usize + 1) as u64,
         mark: rng.percent(50),
         end: rng.pick(&[End::Open, End::Open, End::Stable, End::None]),
         ..*state

@@ -1,7 +1,7 @@
 //! The sheets to compare on, with what is known of them beforehand.
 
 use crate::card::Number;
-use crate::gen::{damaged, plant_round, random, Family, Sheet, Xorshift};
+use crate::gen::{self, damaged, plant_round, random, Sheet, Xorshift};
 use crate::table::{Leg, LegTable};
 
 pub struct Made {
@@ -68,13 +68,11 @@ fn sheet_of_table(rng: &mut Xorshift) -> Made {
 }
 
 fn any_table(rng: &mut Xorshift, n: usize) -> LegTable {
-    match rng.below(Family::ALL.len() + 1) {
-        0 => {
-            let density = rng.between(2, 98);
-            random(rng, n, density)
-        }
-        at => Family::ALL[at - 1].table(rng, n),
+    if rng.percent(6) {
+        let density = rng.between(2, 98);
+        return random(rng, n, density);
     }
+    gen::any_table(rng, n)
 }
 
 /// Leaves some stations with their leg of the round alone.

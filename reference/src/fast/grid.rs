@@ -1,6 +1,7 @@
-//! Passes over rows and columns kept side by side.
+//! The steps of a run over rows and columns kept side by side.
 
 use super::bits::{all_stations, bit, indices, is_single, lowest, transposed};
+use super::chain::Chains;
 use super::matching::spare_stations;
 use super::sweep::sweep_rows;
 use super::Outcome;
@@ -37,12 +38,14 @@ impl Grid {
         }
     }
 
-    /// One step of a run: a sweep at place 0, a pass elsewhere.
+    /// One step of a run: a sweep at place 0, a chain step at place 1, a pass
+    /// elsewhere.
     #[inline]
     pub fn step(&mut self, place: u64, limit: u32) -> Outcome {
         match place {
             0 => self.sweep(),
-            seed => self.pass(seed as usize - 1, limit),
+            1 => self.chain(),
+            place => self.pass(place as usize - 2, limit),
         }
     }
 
@@ -52,6 +55,19 @@ impl Grid {
             self.columns = transposed(&self.rows, self.n);
         }
         outcome
+    }
+
+    fn chain(&mut self) -> Outcome {
+        let Some(chains) = Chains::of(&self.rows[..self.n]) else {
+            return Outcome::NONE;
+        };
+        for first in indices(chains.firsts) {
+            self.columns[first] &= !bit(usize::from(chains.last[first]));
+        }
+        Outcome {
+            removed: chains.strike(&mut self.rows),
+            none: false,
+        }
     }
 
     /// A pass; the seed is the index of its bit.

@@ -3,11 +3,6 @@
 use super::bits::{all_stations, is_single};
 use super::Outcome;
 
-const NONE: Outcome = Outcome {
-    removed: 0,
-    none: true,
-};
-
 /// Sweeps the rows of all stations.
 pub fn sweep_rows(rows: &mut [u64]) -> Outcome {
     // Stations with a predecessor and with more than one.
@@ -16,7 +11,7 @@ pub fn sweep_rows(rows: &mut [u64]) -> Outcome {
     let (mut sole, mut sole_again) = (0, 0);
     for &row in rows.iter() {
         if row == 0 {
-            return NONE;
+            return Outcome::NONE;
         }
         reached_again |= reached & row;
         reached |= row;
@@ -26,7 +21,7 @@ pub fn sweep_rows(rows: &mut [u64]) -> Outcome {
         }
     }
     if reached != all_stations(rows.len()) {
-        return NONE;
+        return Outcome::NONE;
     }
     let once = reached & !reached_again;
     let mut removed = 0;

@@ -47,6 +47,10 @@ fn sweep(to: &mut Written) -> u32 {
     raw::sweep(&mut to.state, &mut to.removed)
 }
 
+fn chain(to: &mut Written) -> u32 {
+    raw::chain(&mut to.state, &mut to.removed)
+}
+
 fn pass(to: &mut Written) -> u32 {
     raw::pass(&mut to.state, 4, &mut to.removed)
 }
@@ -63,7 +67,7 @@ fn report(to: &mut Written) -> u32 {
     raw::report(&to.state, &mut to.buffer, &mut to.length)
 }
 
-const ON_A_STATE: [RawCall; 5] = [sweep, pass, run, check_list, report];
+const ON_A_STATE: [RawCall; 6] = [sweep, chain, pass, run, check_list, report];
 
 fn nine_legs() -> Words {
     to_words(&crate::sheet::open(&NINE_LEGS, 64).state)
@@ -105,7 +109,7 @@ fn a_refused_opening_writes_the_blank_state() {
 }
 
 /// What each call writes when it refuses a state.
-fn refused(before: &Written) -> [Written; 5] {
+fn refused(before: &Written) -> [Written; 6] {
     let removed = 0;
     let by_hand = Written {
         removed,
@@ -123,7 +127,9 @@ fn refused(before: &Written) -> [Written; 5] {
         length: 0,
         ..before.clone()
     };
-    [by_hand.clone(), by_hand, ran, checked, reported]
+    let steps = [(); 3].map(|_| by_hand.clone());
+    let [sweep, chain, pass] = steps;
+    [sweep, chain, pass, ran, checked, reported]
 }
 
 #[test]

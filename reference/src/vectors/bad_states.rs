@@ -3,7 +3,7 @@
 use super::WIDE_NUMBERS;
 use crate::gen::ring;
 use crate::script::Script;
-use crate::state::{End, WorkState};
+use crate::state::{last_place, End, WorkState};
 use crate::table::LegTable;
 
 pub fn add(script: &mut Script) {
@@ -18,6 +18,7 @@ pub fn add(script: &mut Script) {
 /// Seeds, lists and buffers of all kinds: the state is checked before them.
 fn every_call(script: &mut Script) {
     script.sweep();
+    script.chain();
     for seed in [1, 0, 6, u64::MAX] {
         script.pass(seed);
     }
@@ -39,12 +40,19 @@ fn bad_states() -> Vec<WorkState> {
     for limit in [0, 65].into_iter().chain(WIDE_NUMBERS) {
         states.push(WorkState { limit, ..good() });
     }
-    for place in [6, 64].into_iter().chain(WIDE_NUMBERS) {
+    for place in [7, 64].into_iter().chain(WIDE_NUMBERS) {
         states.push(WorkState { place, ..good() });
+    }
+    for n in [2, 64] {
+        let place = last_place(n as u64) + 1;
+        states.push(WorkState {
+            place,
+            ..WorkState::opened(&ring(n), 64)
+        });
     }
     // An ended state is bad for the same reasons.
     for end in [End::Stable, End::None] {
-        let place = 6;
+        let place = 7;
         states.push(WorkState {
             end,
             place,
@@ -99,7 +107,7 @@ fn stray_legs() -> Vec<WorkState> {
 fn good_borders(script: &mut Script) {
     for n in [2, 5] {
         for limit in [1, 64] {
-            for place in [0, n as u64] {
+            for place in [0, last_place(n as u64)] {
                 let table = LegTable::full(n);
                 script.work(&WorkState {
                     place,
@@ -109,4 +117,10 @@ fn good_borders(script: &mut Script) {
             }
         }
     }
+    let place = last_place(64);
+    script.work(&WorkState {
+        place,
+        ..WorkState::opened(&ring(64), 64)
+    });
+    every_call(script);
 }

@@ -1,6 +1,7 @@
 //! The script of test vectors, section by section.
 
 mod bad_states;
+mod chains;
 mod lines;
 mod lists;
 mod openings;
@@ -10,6 +11,7 @@ mod sweeps;
 
 use crate::gen::{Sheet, WIDE_NUMBERS};
 use crate::script::Script;
+use crate::state::{last_place, End, WorkState};
 use crate::table::LegTable;
 
 pub fn script() -> Script {
@@ -19,6 +21,7 @@ pub fn script() -> Script {
     openings::add(&mut script);
     lines::add(&mut script);
     sweeps::add(&mut script);
+    chains::add(&mut script);
     passes::add(&mut script);
     runs::add(&mut script);
     lists::add(&mut script);
@@ -27,4 +30,21 @@ pub fn script() -> Script {
 
 fn open_table(script: &mut Script, limit: u64, table: &LegTable) {
     script.open(limit, &Sheet::of(table).bytes());
+}
+
+/// A table under every end, with place and mark at rest and elsewhere.
+fn states_of(table: &LegTable) -> Vec<WorkState> {
+    let opened = WorkState::opened(table, 64);
+    let mut states = Vec::new();
+    for end in [End::Open, End::Stable, End::None] {
+        states.push(WorkState { end, ..opened });
+        states.push(WorkState {
+            end,
+            place: last_place(opened.n),
+            mark: true,
+            ..opened
+        });
+    }
+    states.push(WorkState { place: 1, ..opened });
+    states
 }

@@ -109,7 +109,7 @@ fn stray_seeds(script: &mut Script) {
 
 fn small_tables(script: &mut Script) {
     let mut rng = Xorshift::new(401);
-    for family in Family::ALL {
+    for family in Family::FOR_PASSES {
         for n in [rng.between(2, 4), rng.between(5, 6), 7] {
             every_seed(script, &family.table(&mut rng, n));
         }
@@ -123,7 +123,7 @@ fn small_tables(script: &mut Script) {
 
 fn medium_tables(script: &mut Script) {
     let mut rng = Xorshift::new(402);
-    for family in Family::ALL {
+    for family in Family::FOR_PASSES {
         let n = rng.between(11, 19);
         let table = family.table(&mut rng, n);
         for limit in LIMITS {
@@ -137,7 +137,7 @@ fn large_tables(script: &mut Script) {
     for family in [Family::Hubs, Family::Grid, Family::ClustersAtTwo] {
         seeds_in_turn(script, 64, &family.table(&mut rng, 64));
     }
-    for family in Family::ALL {
+    for family in Family::FOR_PASSES {
         for (n, limit) in [(33, 3), (63, 8), (64, 2), (64, 64)] {
             open_table(script, limit, &family.table(&mut rng, n));
             for seed in [1, 32, n as u64] {

@@ -51,7 +51,7 @@ fn cut_runs(script: &mut Script) {
 /// One step at a time, and two steps more than there are.
 fn single_steps(script: &mut Script) {
     let mut rng = Xorshift::new(502);
-    for family in Family::ALL {
+    for family in Family::FOR_PASSES {
         let n = rng.between(7, 10);
         let table = family.table(&mut rng, n);
         for limit in [2, 64] {
@@ -69,7 +69,7 @@ fn states_amid_a_cycle(script: &mut Script) {
     let nine_legs = open(&paper::NINE_LEGS, 64).state;
     for end in [End::Open, End::Stable, End::None] {
         for mark in [false, true] {
-            for place in [0, 3, 6] {
+            for place in [0, 1, 3, 7] {
                 script.work(&WorkState {
                     place,
                     mark,
@@ -88,7 +88,7 @@ fn states_amid_a_cycle(script: &mut Script) {
 fn struck_before_none(script: &mut Script) {
     let opened = WorkState::opened(&rung_and_dead_end(), 64);
     for mark in [false, true] {
-        for place in 0..=8 {
+        for place in 0..=9 {
             script.work(&WorkState {
                 place,
                 mark,
@@ -101,7 +101,7 @@ fn struck_before_none(script: &mut Script) {
 
 fn whole_runs(script: &mut Script) {
     let mut rng = Xorshift::new(503);
-    for family in Family::ALL {
+    for family in Family::FOR_PASSES {
         for n in [2, 3, 4, 5, 9, 14, 24, 40, 64] {
             let limit = rng.pick(&[1, 3, 64, 64]);
             open_table(script, limit, &family.table(&mut rng, n));
@@ -122,10 +122,11 @@ fn mixed_calls(script: &mut Script) {
         let limit = rng.pick(&[1, 2, 3, 64]);
         open_table(script, limit, &any_table(&mut rng, n));
         for _ in 0..8 {
-            match rng.below(8) {
+            match rng.below(9) {
                 0 | 1 => script.sweep(),
-                2 => script.pass(rng.pick(&WIDE_NUMBERS)),
-                3..=5 => script.pass(rng.below(n + 1) as u64),
+                2 => script.chain(),
+                3 => script.pass(rng.pick(&WIDE_NUMBERS)),
+                4..=6 => script.pass(rng.below(n + 1) as u64),
                 _ => script.run(rng.below(2 * n) as u32),
             }
         }

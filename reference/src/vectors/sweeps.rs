@@ -1,21 +1,19 @@
 //! Sweeps and passes by hand on states of every kind.
 
-use super::open_table;
+use super::{open_table, states_of};
 use crate::gen::{any_table, random, ring, Family, Xorshift};
 use crate::paper;
 use crate::script::Script;
 use crate::sheet::open;
-use crate::state::{End, WorkState};
 use crate::table::LegTable;
 
 pub fn add(script: &mut Script) {
     for table in small_tables() {
-        for state in states_of(&table) {
-            script.work(&state);
-            script.sweep();
-            script.sweep();
-        }
+        open_table(script, 64, &table);
+        script.sweep();
+        script.sweep();
     }
+    sweeps_by_hand(script);
     passes_by_hand(script);
     chains_of_sweeps(script);
     large_tables(script);
@@ -43,21 +41,15 @@ fn small_tables() -> Vec<LegTable> {
     ]
 }
 
-/// A table under every end, with place and mark at rest and elsewhere.
-fn states_of(table: &LegTable) -> Vec<WorkState> {
-    let opened = WorkState::opened(table, 64);
-    let mut states = Vec::new();
-    for end in [End::Open, End::Stable, End::None] {
-        states.push(WorkState { end, ..opened });
-        states.push(WorkState {
-            end,
-            place: opened.n,
-            mark: true,
-            ..opened
-        });
+/// Legs that go, none, and neither, under every end and from every place.
+fn sweeps_by_hand(script: &mut Script) {
+    for table in [nine_legs(), LegTable::empty(3), ring(4)] {
+        for state in states_of(&table) {
+            script.work(&state);
+            script.sweep();
+            script.sweep();
+        }
     }
-    states.push(WorkState { place: 1, ..opened });
-    states
 }
 
 fn passes_by_hand(script: &mut Script) {

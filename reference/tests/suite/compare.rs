@@ -2,12 +2,12 @@
 
 use reference::compare::{compare_sheet, Counts};
 use reference::gen::{any_table, Sheet, Xorshift};
-use reference::hand::Handled;
+use reference::hand::{self, Handled};
 use reference::lines::Reported;
 use reference::list::Checked;
 use reference::run::Ran;
 use reference::sheet::Opened;
-use reference::{open, program, Calls, End, Fast, WorkState};
+use reference::{card, open, program, Calls, End, Fast, WorkState};
 
 #[test]
 fn fast_calls_differ_nowhere() {
@@ -21,7 +21,9 @@ fn fast_calls_differ_nowhere() {
     assert!(counts.numbers.iter().all(|&count| count > 10));
     assert!(counts.plain > 5_000 && counts.watched > 100);
     assert!(counts.rounds_confirmed > 100 && counts.legs_removed > 1_000);
-    assert!(counts.ended_stable > 100 && counts.ended_none > 100);
+    assert!(counts.ended_stable > 100 && counts.ended_none > 80);
+    let chains = &counts.chains;
+    assert!(chains.struck > 100 && chains.none > 100 && chains.left > 100);
 }
 
 #[test]
@@ -57,12 +59,15 @@ enum Fault {
     CircuitsAsRounds,
     WritesBehindText,
     PlaceUnchecked,
+    EndsAtTheStations,
+    LoopsMissed,
+    OneChainOnly,
     PrintsWhatFits,
     RefusalAsAnswer,
     Panics,
 }
 
-const FAULTS: [Fault; 11] = [
+const FAULTS: [Fault; 14] = [
     Fault::PlaceOfRefusal,
     Fault::RemovalCount,
     Fault::LimitIgnored,
@@ -71,6 +76,9 @@ const FAULTS: [Fault; 11] = [
     Fault::CircuitsAsRounds,
     Fault::WritesBehindText,
     Fault::PlaceUnchecked,
+    Fault::EndsAtTheStations,
+    Fault::LoopsMissed,
+    Fault::OneChainOnly,
     Fault::PrintsWhatFits,
     Fault::RefusalAsAnswer,
     Fault::Panics,
@@ -95,6 +103,29 @@ impl Calls for Faulty {
         }
         assert!(!matches!(self.0, Fault::Panics) || swept.state.end == state.end);
         swept
+    }
+
+    fn chain(&self, state: WorkState) -> Handled {
+        let mut chained = Fast.chain(state);
+        match self.0 {
+            // The last place of a cycle without a chain step.
+            Fault::EndsAtTheStations if state.place == state.n + 1 => {
+                hand::refused(card::BAD_WORK_STATE, state)
+            }
+            Fault::LoopsMissed => {
+                chained.state.end = state.end;
+                chained
+            }
+            Fault::OneChainOnly if chained.removed > 1 => {
+                // A chain step takes at most one leg from a row.
+                let back = (0..64).rfind(|&at| chained.state.rows[at] != state.rows[at]);
+                let back = back.expect("a row that has changed");
+                chained.state.rows[back] = state.rows[back];
+                chained.removed -= 1;
+                chained
+            }
+            _ => chained,
+        }
     }
 
     fn pass(&self, state: WorkState, seed: u64) -> Handled {

@@ -6,19 +6,24 @@ use reference::{Calls, End, Fast, LegTable, Plain, WorkState};
 /// Makes one random call with both and hands back the state that follows.
 fn call_both(rng: &mut Xorshift, state: WorkState) -> WorkState {
     let n = state.n.clamp(1, 64) as usize;
-    match rng.below(6) {
+    match rng.below(8) {
         0 => {
             let swept = Plain.sweep(state);
             assert_eq!(Fast.sweep(state), swept);
             swept.state
         }
-        1..=3 => {
+        1 | 2 => {
+            let chained = Plain.chain(state);
+            assert_eq!(Fast.chain(state), chained, "chain step on {state:?}");
+            chained.state
+        }
+        3..=5 => {
             let seed = rng.below(n + 2) as u64;
             let passed = Plain.pass(state, seed);
             assert_eq!(Fast.pass(state, seed), passed, "seed {seed} on {state:?}");
             passed.state
         }
-        4 => {
+        6 => {
             let budget = rng.below(2 * n) as u32;
             let ran = Plain.run(state, budget);
             assert_eq!(Fast.run(state, budget), ran, "budget {budget} on {state:?}");
@@ -60,7 +65,7 @@ fn report_both(rng: &mut Xorshift, state: &WorkState) {
 fn state_of(rng: &mut Xorshift, table: &LegTable) -> WorkState {
     let mut state = WorkState::opened(table, rng.pick(&[1, 2, 3, 5, 8, 64]));
     if rng.percent(30) {
-        state.place = rng.below(table.n() + 1) as u64;
+        state.place = rng.below(table.n() + 2) as u64;
         state.mark = rng.percent(50);
         state.end = rng.pick(&[End::Open, End::Stable, End::None]);
     }

@@ -19,6 +19,7 @@ fn answers_to_each_command() {
     script.sweep();
     script.open(64, &[3, 0, 0, 0]);
     script.pass(2);
+    script.chain();
     script.run(7);
     script.list(&[2, 3, 1]);
     script.list(&[2, 3]);
@@ -31,7 +32,9 @@ open 0 at 0
 state n 3 limit 64 place 0 mark 0 end open legs 6 1=0000000000000006 2=0000000000000005 3=0000000000000003
 pass 0 removed 0
 state n 3 limit 64 place 0 mark 0 end open legs 6 1=0000000000000006 2=0000000000000005 3=0000000000000003
-run 0 steps 4 removed 0
+chain 0 removed 0
+state n 3 limit 64 place 0 mark 0 end open legs 6 1=0000000000000006 2=0000000000000005 3=0000000000000003
+run 0 steps 5 removed 0
 state n 3 limit 64 place 0 mark 0 end stable legs 6 1=0000000000000006 2=0000000000000005 3=0000000000000003
 list 0 yes
 list 9 no
@@ -88,9 +91,10 @@ fn vectors_are_answered_alike() {
 fn vectors_draw_every_number() {
     let script = vectors::script();
     let text = String::from_utf8(answers(&Fast, script.bytes())).expect("text");
-    let numbers: [(&str, &[u8]); 6] = [
+    let numbers: [(&str, &[u8]); 7] = [
         ("open", &[0, 1, 2, 3, 4, 5, 6]),
         ("sweep", &[0, 7]),
+        ("chain", &[0, 7]),
         ("pass", &[0, 7, 8]),
         ("run", &[0, 7]),
         ("list", &[0, 7, 9]),

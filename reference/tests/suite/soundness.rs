@@ -3,9 +3,9 @@
 
 use std::collections::BTreeSet;
 
-use reference::gen::{any_table, Xorshift};
+use reference::gen::{all_tables, any_table, Xorshift};
 use reference::rounds::drivable_legs;
-use reference::{pass, run, sweep, End, LegTable, WorkState};
+use reference::{chain, pass, run, sweep, End, LegTable, WorkState};
 
 use crate::opened;
 
@@ -37,12 +37,16 @@ impl Watched {
 
     fn random_call(&mut self, rng: &mut Xorshift) {
         let n = self.state.n as usize;
-        match rng.below(4) {
+        match rng.below(5) {
             0 => {
                 let swept = sweep(self.state);
                 self.accept(swept.state, swept.removed);
             }
-            1 | 2 => {
+            1 => {
+                let chained = chain(self.state);
+                self.accept(chained.state, chained.removed);
+            }
+            2 | 3 => {
                 let passed = pass(self.state, rng.below(n + 2) as u64);
                 self.accept(passed.state, passed.removed);
             }
@@ -60,16 +64,6 @@ impl Watched {
     }
 }
 
-/// Every table of n stations.
-fn all_tables(n: usize) -> impl Iterator<Item = LegTable> {
-    let legs = LegTable::full(n).legs();
-    (0..1_u32 << legs.len()).map(move |code| {
-        let kept = legs.iter().enumerate();
-        let kept = kept.filter(|(at, _)| code >> at & 1 == 1);
-        LegTable::from_legs(n, kept.map(|(_, &leg)| leg))
-    })
-}
-
 #[test]
 fn every_call_on_all_tables_up_to_four() {
     for n in 2..=4 {
@@ -80,10 +74,12 @@ fn every_call_on_all_tables_up_to_four() {
                     let passed = pass(watched.state, seed);
                     watched.accept(passed.state, passed.removed);
                 }
-                let mut watched = Watched::new(&table, limit);
-                let swept = sweep(watched.state);
-                watched.accept(swept.state, swept.removed);
-                watched.run_to_the_end();
+                for step in [sweep, chain] {
+                    let mut watched = Watched::new(&table, limit);
+                    let handled = step(watched.state);
+                    watched.accept(handled.state, handled.removed);
+                    watched.run_to_the_end();
+                }
             }
         }
     }
@@ -113,7 +109,7 @@ fn any_state(rng: &mut Xorshift) -> WorkState {
     let n = rng.between(2, 8);
     WorkState {
         limit: rng.pick(&[1, 2, 3, 64]),
-        place: rng.below(n + 1) as u64,
+        place: rng.below(n + 2) as u64,
         mark: rng.percent(50),
         end: rng.pick(&[End::Open, End::Open, End::Open, End::Stable, End::None]),
         ..opened(&any_table(rng, n))

@@ -1,6 +1,6 @@
 //! Bad states, calls by hand under every end, reports into lent buffers.
 
-use reference::gen::{choices_at_odds, reversed, ring, rung_and_dead_end};
+use reference::gen::{chain_among, choices_at_odds, loop_among, reversed, ring, rung_and_dead_end};
 use reference::lines::station_lines;
 use reference::paper::{butterfly, NINE_LEGS};
 use reference::{open, Calls, End, LegTable, WorkState};
@@ -36,7 +36,7 @@ fn bad_states() -> Vec<WorkState> {
             .map(|&limit| WorkState { limit, ..good }),
     );
     states.extend(
-        [6, 64]
+        [7, 64]
             .iter()
             .chain(&large)
             .map(|&place| WorkState { place, ..good }),
@@ -56,9 +56,29 @@ fn bad_states_are_refused_as_they_are() {
     }
 }
 
+/// The place after the chain step and n passes is the last one.
+#[test]
+fn places_up_to_the_last_are_good() {
+    for calls in BOTH {
+        for n in 2..=64 {
+            let state = opened(&ring(n));
+            for place in 0..=n as u64 + 1 {
+                assert!(!calls.bad(&WorkState { place, ..state }));
+            }
+            let place = n as u64 + 2;
+            assert_refused(calls, WorkState { place, ..state });
+        }
+    }
+}
+
 fn assert_refused(calls: &dyn Calls, state: WorkState) {
     let swept = calls.sweep(state);
     assert_eq!((swept.number, swept.state, swept.removed), (7, state, 0));
+    let chained = calls.chain(state);
+    assert_eq!(
+        (chained.number, chained.state, chained.removed),
+        (7, state, 0)
+    );
     for seed in [0, 1, u64::MAX] {
         let passed = calls.pass(state, seed);
         assert_eq!((passed.number, passed.state, passed.removed), (7, state, 0));
@@ -110,6 +130,7 @@ fn by_hand_without_effect() {
         for end in [End::Open, End::Stable, End::None] {
             let state = amid(&ring(5), end);
             assert_eq!(calls.sweep(state).state, state);
+            assert_eq!(calls.chain(state).state, state);
             assert_eq!(calls.pass(state, 2).state, state);
         }
     }
@@ -127,12 +148,24 @@ fn by_hand_with_legs_removed() {
                 ..opened(&table)
             };
             assert_eq!((swept.removed, swept.state), (3, expected));
+
+            let table = chain_among(4, 9);
+            let chained = calls.chain(amid(&table, end));
+            let mut expected = opened(&table);
+            expected.rows[3] &= !1;
+            assert_eq!((chained.removed, chained.state), (1, expected));
         }
         let ended = amid(&table, End::None);
         let swept = calls.sweep(ended);
         assert_eq!((swept.number, swept.removed, swept.state), (0, 0, ended));
         let passed = calls.pass(ended, 4);
         assert_eq!((passed.number, passed.removed, passed.state), (0, 0, ended));
+        let ended = amid(&chain_among(4, 9), End::None);
+        let chained = calls.chain(ended);
+        assert_eq!(
+            (chained.number, chained.removed, chained.state),
+            (0, 0, ended)
+        );
     }
 }
 
@@ -149,6 +182,11 @@ fn by_hand_with_verdict_none() {
             let none = amid(&LegTable::empty(5), End::None);
             let swept = calls.sweep(state);
             assert_eq!((swept.removed, swept.state), (0, none));
+
+            let state = amid(&loop_among(4, 9), end);
+            let none = amid(&loop_among(4, 9), End::None);
+            let chained = calls.chain(state);
+            assert_eq!((chained.removed, chained.state), (0, none));
         }
     }
 }
@@ -164,9 +202,9 @@ fn legs_struck_before_none_stay_struck() {
         assert_eq!((passed.number, passed.removed, passed.state), (0, 1, none));
 
         let ran = calls.run(before, 10);
-        let place = 1;
+        let place = 2;
         assert_eq!(ran.state, WorkState { place, ..none });
-        assert_eq!((ran.steps, ran.removed), (2, 1));
+        assert_eq!((ran.steps, ran.removed), (3, 1));
     }
 }
 

@@ -1,6 +1,6 @@
 //! The rounds from the depot wall.
 
-use reference::gen::ring;
+use reference::gen::{chain_among, loop_among, ring};
 use reference::paper::{butterfly, NINE_LEGS, NINE_LEGS_OUTPUT};
 use reference::{program, End, LegTable, WorkState};
 
@@ -59,8 +59,8 @@ fn nine_legs_pass_with_seed_4() {
 #[test]
 fn runs_on_short_sheets() {
     let cases: [(&[u8], u64, u32, End); 3] = [
-        (&[3, 0, 0, 0], 6, 4, End::Stable),
-        (&[2, 0, 0], 2, 3, End::Stable),
+        (&[3, 0, 0, 0], 6, 5, End::Stable),
+        (&[2, 0, 0], 2, 4, End::Stable),
         (&[2, 4, 1, 0], 1, 1, End::None),
     ];
     for calls in BOTH {
@@ -97,8 +97,32 @@ fn butterfly_has_no_round() {
         let passed = calls.pass(state, 1);
         assert_eq!((passed.number, passed.removed, passed.state), (0, 0, none));
         let ran = calls.run(state, 300_000);
-        assert_eq!((ran.number, ran.steps, ran.removed), (0, 2, 0));
-        assert_eq!(ran.state, WorkState { place: 1, ..none });
+        assert_eq!((ran.number, ran.steps, ran.removed), (0, 3, 0));
+        assert_eq!(ran.state, WorkState { place: 2, ..none });
+    }
+}
+
+/// What the chain step was asked for: the leg that closes a loop of four among
+/// thirty goes, and the loop itself is no round.
+#[test]
+fn loops_of_four_among_thirty() {
+    for calls in BOTH {
+        let before = opened(&chain_among(4, 30));
+        let chained = calls.chain(before);
+        assert_eq!((chained.number, chained.removed), (0, 1));
+        assert_eq!(removed_legs(&before, &chained.state), [(4, 1)]);
+        assert_eq!(chained.state.end, End::Open);
+
+        let state = opened(&loop_among(4, 30));
+        let none = WorkState {
+            end: End::None,
+            ..state
+        };
+        let chained = calls.chain(state);
+        assert_eq!(
+            (chained.number, chained.removed, chained.state),
+            (0, 0, none)
+        );
     }
 }
 

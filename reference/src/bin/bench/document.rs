@@ -5,6 +5,7 @@ use std::fs;
 use reference::fast;
 
 use crate::shapes::{Input, Inputs};
+use crate::share::Share;
 use crate::times::{Results, Row, Times};
 use crate::{REPETITIONS, SIZES, TABLES};
 
@@ -25,7 +26,7 @@ const NOTES: &str = "\
 - Before each repetition the words are copied in afresh, outside the time taken. Within it the caller clears no buffer; what a call clears of its own working space is part of its time, on both sides.
 - A band has its stations in a line, with legs one or two places on and one place back, and the round that goes up by the odd places and down by the even ones. A run strikes few of its legs in each of many cycles. A plain ring has one round and no other leg. The stations of both are numbered at random.";
 
-pub fn print(shapes: &[Inputs], results: &[Results]) {
+pub fn print(shapes: &[Inputs], results: &[Results], shares: &[Share]) {
     println!("{HEAD}");
     println!("on {}.\n", machine());
     println!("- A time is the median of {REPETITIONS} repetitions, and the mean over {TABLES} tables; for a pass also over all seeds.");
@@ -35,6 +36,7 @@ pub fn print(shapes: &[Inputs], results: &[Results]) {
         print_times(call);
     }
     print_runs(shapes);
+    print_shares(shares);
     println!("\n## Highest ratios\n");
     println!(
         "- to the Rust version with lent words: {}",
@@ -121,6 +123,31 @@ fn run_cell(inputs: &[Input]) -> String {
     }
     let mean = |sum: u64| (sum as f64 / inputs.len() as f64).round();
     format!("{} steps, {} of {}", mean(steps), mean(removed), mean(legs))
+}
+
+/// What the chain steps are of a whole run.
+fn print_shares(shares: &[Share]) {
+    let heads = [
+        "chain steps of a run",
+        "called by hand",
+        "whole run",
+        "share",
+        "share without checks",
+    ];
+    println!("\n## Chain steps in a whole run, 64 stations\n");
+    println!("The chain steps of the run are called by hand, each on the state that the run has before it, and their times added up. A call by hand also checks the state, and a step of a run does not. The last column leaves that out: from each time it takes that of the same call on the same state with the end none.\n");
+    print_head("tables", &heads.map(String::from));
+    for share in shares {
+        let percent = |part: f64| format!("{:.2} %", 100.0 * part);
+        let cells = [
+            format!("{:.1}", share.steps),
+            unit(share.by_hand),
+            unit(share.run),
+            percent(share.with_checks()),
+            percent(share.without_checks()),
+        ];
+        print_row(share.shape, &cells);
+    }
 }
 
 /// The highest ratio and where it was found.

@@ -3,6 +3,7 @@
 
 mod document;
 mod shapes;
+mod share;
 mod sides;
 mod times;
 
@@ -14,5 +15,12 @@ const LIMIT: usize = 64;
 fn main() {
     let shapes = shapes::ALL.map(shapes::Shape::inputs);
     let results = times::Timed::ALL.map(|call| times::Results::of(call, &shapes));
-    document::print(&shapes, &results);
+    // Whole runs are timed last.
+    let runs = &results[results.len() - 1].rows;
+    let shares: Vec<_> = shapes
+        .iter()
+        .zip(runs)
+        .map(|(shape, row)| share::Share::of(shape, row))
+        .collect();
+    document::print(&shapes, &results, &shares);
 }

@@ -14,6 +14,7 @@ pub trait Side {
     fn lend(state: &WorkState) -> Self::State;
     fn open(sheet: &[u8], state: &mut Self::State);
     fn sweep(state: &mut Self::State);
+    fn chain(state: &mut Self::State);
     fn pass(state: &mut Self::State, seed: usize);
     fn run(state: &mut Self::State);
 }
@@ -37,6 +38,12 @@ impl Side for Proved {
     fn sweep(state: &mut Words) {
         let mut removed = 0;
         black_box(raw::sweep(state, &mut removed));
+        black_box(removed);
+    }
+
+    fn chain(state: &mut Words) {
+        let mut removed = 0;
+        black_box(raw::chain(state, &mut removed));
         black_box(removed);
     }
 
@@ -73,6 +80,12 @@ impl Side for Direct {
         let swept = fast::sweep(*state);
         black_box((swept.number, swept.removed));
         *state = swept.state;
+    }
+
+    fn chain(state: &mut WorkState) {
+        let chained = fast::chain(*state);
+        black_box((chained.number, chained.removed));
+        *state = chained.state;
     }
 
     fn pass(state: &mut WorkState, seed: usize) {
@@ -113,6 +126,12 @@ impl Side for Lent {
         let swept = fast::sweep(load(state));
         black_box((swept.number, swept.removed));
         *state = to_words(&swept.state);
+    }
+
+    fn chain(state: &mut Words) {
+        let chained = fast::chain(load(state));
+        black_box((chained.number, chained.removed));
+        *state = to_words(&chained.state);
     }
 
     fn pass(state: &mut Words, seed: usize) {

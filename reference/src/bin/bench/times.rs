@@ -7,21 +7,32 @@ use crate::shapes::{Input, Inputs};
 use crate::sides::{Direct, Lent, Proved, Side};
 use crate::{REPETITIONS, SIZES};
 
+/// Short calls in one repetition; a pass has each seed among them.
+pub const CALLS: usize = 64;
+
 #[derive(Clone, Copy)]
 pub enum Timed {
     Open,
     Sweep,
+    Chain,
     Pass,
     Run,
 }
 
 impl Timed {
-    pub const ALL: [Timed; 4] = [Timed::Open, Timed::Sweep, Timed::Pass, Timed::Run];
+    pub const ALL: [Timed; 5] = [
+        Timed::Open,
+        Timed::Sweep,
+        Timed::Chain,
+        Timed::Pass,
+        Timed::Run,
+    ];
 
     pub fn name(self) -> &'static str {
         match self {
             Timed::Open => "open",
             Timed::Sweep => "sweep",
+            Timed::Chain => "chain step",
             Timed::Pass => "pass",
             Timed::Run => "whole run",
         }
@@ -96,16 +107,17 @@ fn time<S: Side>(call: Timed, input: &Input) -> f64 {
     let state = S::lend(&input.state);
     let n = input.state.n as usize;
     match call {
-        Timed::Open => median::<S>(&state, 64, |_, state| S::open(&input.sheet, state)),
-        Timed::Sweep => median::<S>(&state, 64, |_, state| S::sweep(state)),
-        Timed::Pass => median::<S>(&state, 64, |at, state| S::pass(state, at % n + 1)),
+        Timed::Open => median::<S>(&state, CALLS, |_, state| S::open(&input.sheet, state)),
+        Timed::Sweep => median::<S>(&state, CALLS, |_, state| S::sweep(state)),
+        Timed::Chain => median::<S>(&state, CALLS, |_, state| S::chain(state)),
+        Timed::Pass => median::<S>(&state, CALLS, |at, state| S::pass(state, at % n + 1)),
         Timed::Run => median::<S>(&state, 4, |_, state| S::run(state)),
     }
 }
 
 /// The median time of a call. A repetition makes `count` calls, each on a copy
 /// of the state of its own.
-fn median<S: Side>(state: &S::State, count: usize, call: impl Fn(usize, &mut S::State)) -> f64 {
+pub fn median<S: Side>(state: &S::State, count: usize, call: impl Fn(usize, &mut S::State)) -> f64 {
     let mut times = [0.0; REPETITIONS];
     let mut copies = vec![state.clone(); count];
     for time in &mut times {
