@@ -1,13 +1,12 @@
 -- The chain step is sound: a round drives every compulsory leg, and it closes no loop before it has all stations. Assumes nothing.
 use mathlib.Core.Path.{_≡_, refl, sym, ap, _∙_, subst}
 use mathlib.Core.Logic.{⊎-elim}
-use mathlib.Core.Bool.{Bool, true, _&&_, _||_}
+use mathlib.Core.Bool.{true, _&&_, _||_}
 use mathlib.Core.List.{List}
 use Prim.Native.Nat.{ℕ, zero, suc, pred, _^_, _≤_, _<_}
 use native.Mathlib.Nat.{suc-ne-zero, lt-of-lt-of-le}
 use native.Mathlib.Omega.{arith}
 use lib.Dec.{eqb, ltb}
-use lib.ListN.{getD}
 use borrow.Author.Tests.{eqb-true, le-ltb}
 use Rattle.bitset.specs.Sets.{has, size}
 use Rattle.bitset.specs.Upto.{row}
