@@ -4,13 +4,12 @@ use mathlib.Core.Logic.{⊎-elim}
 use mathlib.Core.Bool.{true, _&&_, _||_}
 use mathlib.Core.List.{List}
 use Prim.Native.Nat.{ℕ, zero, suc, pred, _^_, _≤_, _<_}
-use native.Mathlib.Nat.{suc-ne-zero, lt-of-lt-of-le}
+use native.Mathlib.Nat.{suc-ne-zero}
 use native.Mathlib.Omega.{arith}
 use lib.Dec.{eqb, ltb}
 use borrow.Author.Tests.{eqb-true, le-ltb}
 use Rattle.bitset.specs.Sets.{has, size}
 use Rattle.bitset.specs.Upto.{row}
-use Rattle.bitset.proofs.UptoLaws.{getD-upto}
 use Rattle.bitset.proofs.BoolLaws.{not-both, is-false, and-r, or-cases, cond-elim}
 use Rattle.bitset.proofs.QuantLaws.{any-elim}
 use Rattle.bitset.proofs.SetLaws.{has-setOf, has-one}
@@ -18,7 +17,7 @@ use Rattle.bitset.proofs.OnesLaws.{size-one}
 use Rattle.circuit.specs.Legs.{leg, col, columns, without}
 use Rattle.circuit.specs.Round.{iter, RoundOf, All}
 use Rattle.circuit.specs.Verdict.{saysNone, leaves, Sound}
-use Rattle.circuit.proofs.LegsLaws.{tableOf-leg}
+use Rattle.circuit.proofs.LegsLaws.{tableOf-leg, column-at}
 use Rattle.circuit.proofs.SoundLaws.{sound-none, sound-without}
 use Rattle.circuit.proofs.Turn.{back, home-back, back-home, back-stays, round-back, once-from}
 use Rattle.filter.specs.Chain.{compulsory, compulsories, forked, nexts, along, joined, looped, closes, chain}
@@ -40,7 +39,7 @@ module _ (n : ℕ) (t : List ℕ) (le : n ≤ 64) where
     unfolding col
     only-in i j l e =
         let p : ℕ = back n h j in
-        let column : col n t j ≡ 2 ^ i = sym (getD-upto 64 (col n t) 0 j (lt-of-lt-of-le l le)) ∙ eqb-true (row (columns n t) j) (2 ^ i) e in
+        let column : col n t j ≡ 2 ^ i = sym (column-at n t le j l) ∙ eqb-true (row (columns n t) j) (2 ^ i) e in
         let from : p ≡ i = has-one i p (ap (λ (w : ℕ). has w p) (sym column) ∙ has-setOf n (λ i. leg t i j) p (back-stays r j l) ∙ round-back r .drives j l) in
         ap h (sym from) ∙ home-back r j l
 

@@ -1,27 +1,25 @@
 -- The walks against the legs from the ends of the chains find what the definitions find along the legs. Assumes nothing.
 use mathlib.Core.Path.{_≡_, refl, sym, ap, _∙_, subst}
 use mathlib.Core.Logic.{_≢_, ⊎-elim}
-use mathlib.Core.Bool.{Bool, true, false, not, cond, _&&_, _||_}
+use mathlib.Core.Bool.{Bool, true, false, not, _&&_, _||_}
 use mathlib.Core.List.{List}
-use Prim.Native.Nat.{ℕ, zero, suc, pred, _^_, _≤_, _<_}
-use native.Mathlib.Nat.{lt-of-lt-of-le}
+use Prim.Native.Nat.{ℕ, zero, suc, pred, _≤_, _<_}
 use native.Mathlib.Omega.{arith}
 use lib.Dec.{eqb, ltb}
 use lib.ListN.{getD}
 use borrow.Author.Tests.{eqb-true, eq-eqb, ne-eqb, ltb-true, ltb-false, lt-ltb, le-ltb, not-true}
-use Rattle.bitset.specs.Sets.{has, setOf, any, first}
+use Rattle.bitset.specs.Sets.{has, any, first}
 use Rattle.bitset.specs.Upto.{row}
-use Rattle.bitset.proofs.BoolLaws.{iff, not-both, clash, cases, is-false, and-intro, and-l, and-r, or-l, or-r, or-cases, cond-false, taut2, taut3}
+use Rattle.bitset.proofs.BoolLaws.{iff, not-both, clash, cases, is-false, and-intro, and-l, and-r, or-l, or-r, or-cases, taut2, taut3}
 use Rattle.bitset.proofs.FirstLaws.{first-at}
 use Rattle.bitset.proofs.HasLaws.{has-zero, member-below}
 use Rattle.bitset.proofs.QuantLaws.{below?, any-intro, any-elim, any-none}
-use Rattle.bitset.proofs.SetLaws.{has-setOf, setOf-lt, setOf-ext, word-lt, some-member}
-use Rattle.bitset.proofs.UptoLaws.{getD-upto, upto-cong}
-use Rattle.circuit.specs.Legs.{leg, col, columns, tableOf, without}
+use Rattle.bitset.proofs.SetLaws.{word-lt, some-member}
+use Rattle.circuit.specs.Legs.{leg, col, columns, without}
 use Rattle.circuit.specs.Round.{iter}
 use Rattle.circuit.specs.inner.Tables.{Square}
 use Rattle.circuit.proofs.Iterate.{iter-swap}
-use Rattle.circuit.proofs.LegsLaws.{row-in}
+use Rattle.circuit.proofs.LegsLaws.{row-in, column-at, column-leg, columns-square, without-ext}
 use Rattle.filter.specs.Chain.{compulsory, compulsories, forked, nexts, along, joined, looped, closes}
 use Rattle.filter.specs.declared.chaining.Chains.{Chains}
 use Rattle.filter.specs.inner.Chains.{ChainsOf, ShortLoop}
@@ -120,31 +118,20 @@ module _ (n : ℕ) (m : List ℕ) (le : n ≤ 64) where
   abbrev prev : ℕ → ℕ
   prev j = getD (nexts n (columns n m)) j n
 
-  column : (j : ℕ) → j < n → row (columns n m) j ≡ col n m j
-  column j l = getD-upto 64 (col n m) 0 j (lt-of-lt-of-le l le)
-
-  column-leg : (i j : ℕ) → i < n → j < n → leg (columns n m) j i ≡ leg m i j
-  unfolding leg col
-  column-leg i j li lj = ap (λ (w : ℕ). has w i) (column j lj) ∙ has-setOf n (λ i. leg m i j) i li
-
-  pub columns-square : Square n (columns n m)
-  unfolding col
-  columns-square j l = subst (λ (w : ℕ). w < 2 ^ n) (sym (column j l)) (setOf-lt n (λ i. leg m i j))
-
   pub mates : forked n m ≡ false → Mates n next prev
   mates one = record { there = there; back = back }
     where
       there : (i : ℕ) → next i < n → (i < n) × (prev (next i) ≡ i)
       there i l =
           let h = next-leg n m i l in
-          let f = first-at n (leg (columns n m) (next i)) i (h .0) (column-leg i (next i) (h .0) l ∙ h .1) in
+          let f = first-at n (leg (columns n m) (next i)) i (h .0) (column-leg n m le i (next i) (h .0) l ∙ h .1) in
           let k = first n (leg (columns n m) (next i)) in
-          (h .0, next-at n (columns n m) (next i) l ∙ same-previous n m one (next i) k i l (f .0) (h .0) (sym (column-leg k (next i) (f .0) l) ∙ f .1) (h .1))
+          (h .0, next-at n (columns n m) (next i) l ∙ same-previous n m one (next i) k i l (f .0) (h .0) (sym (column-leg n m le k (next i) (f .0) l) ∙ f .1) (h .1))
 
       back : (j : ℕ) → prev j < n → (j < n) × (next (prev j) ≡ j)
       back j l =
           let h = next-leg n (columns n m) j l in
-          (h .0, leg-next n m one (prev j) j l (h .0) (sym (column-leg (prev j) j l (h .0)) ∙ h .1))
+          (h .0, leg-next n m one (prev j) j l (h .0) (sym (column-leg n m le (prev j) j l (h .0)) ∙ h .1))
 
   pub joined-turned : forked n m ≡ false → (f a b : ℕ) → a < n → b < n → joined n (nexts n m) f a b ≡ joined n (nexts n (columns n m)) f b a
   joined-turned one f a b la lb =
@@ -161,21 +148,6 @@ Marks n u w = (a : ℕ) → a < n → has w a ≡ ltb 0 (row u a)
 pub compulsories-square : (n : ℕ) (t : List ℕ) → n ≤ 64 → Square n (compulsories n t)
 unfolding compulsories
 compulsories-square n t le i l = word-lt n (compulsory t (columns n t) i) (row-in n (compulsory t (columns n t)) i le l)
-
--- two tests that agree on the stations below n strike the same legs
-without-ext : (n : ℕ) (t : List ℕ) (p q : ℕ → ℕ → Bool) → ((i j : ℕ) → i < n → j < n → p i j ≡ q i j) → without n t p ≡ without n t q
-unfolding without tableOf
-without-ext n t p q f = upto-cong 64 (left p) (left q) (λ i l. ⊎-elim (inside i) (beyond i) (below? i n))
-  where
-    left : (ℕ → ℕ → Bool) → ℕ → ℕ
-    left p i = cond (ltb i n) (setOf n (λ j. leg t i j && not (p i j))) 0
-
-    inside : (i : ℕ) → i < n → left p i ≡ left q i
-    inside i li =
-        ap (λ (w : ℕ). cond (ltb i n) w 0) (setOf-ext n (λ j. leg t i j && not (p i j)) (λ j. leg t i j && not (q i j)) (λ j lj. ap (λ (b : Bool). leg t i j && not b) (f i j li lj)))
-
-    beyond : (i : ℕ) → n ≤ i → left p i ≡ left q i
-    beyond i g = cond-false _ 0 (le-ltb i n g) ∙ sym (cond-false _ 0 (le-ltb i n g))
 
 zero-test : (w : ℕ) → eqb w 0 ≡ not (ltb 0 w)
 zero-test w =
@@ -207,7 +179,7 @@ module _ (n : ℕ) (m : List ℕ) (le : n ≤ 64) (sq : Square n m) (one : forke
   pub closes-turned : (b a : ℕ) → b < n → a < n → closes n m s b a ≡ has ends b && joined n p (pred (pred n)) b a && not (has into a)
   unfolding closes
   closes-turned b a lb la =
-      rw (zero-test (col n m a), ← column n m le a la, ← enter a la, zero-test (row m b), ← leave b lb, joined-turned n m le one (pred (pred n)) a b la lb, last b lb)
+      rw (zero-test (col n m a), ← column-at n m le a la, ← enter a la, zero-test (row m b), ← leave b lb, joined-turned n m le one (pred (pred n)) a b la lb, last b lb)
       (closing-tests (has into a) (has out b) (has into b) (joined n p (pred (pred n)) b a) enters)
     where
       enters : joined n p (pred (pred n)) b a ≡ true → has into b ≡ true

@@ -1,5 +1,5 @@
 -- The list of the next stations, and the legs of the table that it stands for. Assumes nothing.
-use mathlib.Core.Path.{_≡_, refl, sym, ap, _∙_, subst}
+use mathlib.Core.Path.{_≡_, sym, ap, _∙_, subst}
 use mathlib.Core.Logic.{⊎-elim}
 use mathlib.Core.Bool.{true, false, _||_}
 use mathlib.Core.List.{List}
@@ -8,7 +8,7 @@ use native.Mathlib.Omega.{arith}
 use lib.Dec.{ltb}
 use lib.ListN.{getD, List·getD-eq-default}
 use borrow.Author.Tests.{ltb-false}
-use Rattle.bitset.specs.Sets.{has, first, size}
+use Rattle.bitset.specs.Sets.{first, size}
 use Rattle.bitset.specs.Upto.{row}
 use Rattle.bitset.proofs.BoolLaws.{or-false-l, or-false-r}
 use Rattle.bitset.proofs.FirstLaws.{first-at, first-found}

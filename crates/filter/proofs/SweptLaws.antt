@@ -5,7 +5,6 @@ use mathlib.Core.Bool.{Bool, true, false, not, cond, _&&_, _||_}
 use mathlib.Core.List.{List}
 use Prim.Native.Nat.{ℕ, _^_, _≤_, _<_}
 use native.Mathlib.Nat.{lt-of-lt-of-le, lt-trans}
-use native.Mathlib.Omega.{arith}
 use lib.Dec.{eqb, ltb}
 use lib.ListN.{getD}
 use lib.Pow.{pow-mono}
@@ -16,10 +15,10 @@ use Rattle.bitset.proofs.BoolLaws.{clash, cases, and-l, cond-true, cond-false}
 use Rattle.bitset.proofs.QuantLaws.{below?, any-intro, any-elim, any-ext, any-or}
 use Rattle.bitset.proofs.HasLaws.{has-zero, has-above, ext}
 use Rattle.bitset.proofs.SetLaws.{has-setOf, setOf-lt, setOf-above}
-use Rattle.bitset.proofs.UptoLaws.{getD-upto}
 use Rattle.circuit.specs.Legs.{columns, leg, col, tableOf, without}
 use Rattle.circuit.specs.State.{stray}
 use Rattle.circuit.specs.Verdict.{saysNone, leaves}
+use Rattle.circuit.proofs.LegsLaws.{column-at, columns-square}
 use Rattle.circuit.proofs.StateLaws.{stray-row, stray-beyond}
 use Rattle.filter.specs.declared.sweeping.Singles.{Singles}
 use Rattle.filter.specs.inner.Singles.{single, only, SinglesOf, keeps}
@@ -70,25 +69,18 @@ by-column false false true h = refl
 by-column false false false h = refl
 
 module _ (n : ℕ) (t : List ℕ) (le : n ≤ 64) (clean : stray n t ≡ false) (next prev : Singles) (gn : SinglesOf n t next) (gp : SinglesOf n (columns n t) prev) where
-  col-at : (k : ℕ) → k < n → getD (columns n t) k 0 ≡ col n t k
-  col-at k l = getD-upto 64 (col n t) 0 k (lt-of-lt-of-le l le)
-
   -- some row or some column is empty
   pub stuck-is : next .empty || prev .empty ≡ stuck n t
   unfolding stuck
   stuck-is =
-      ap₂ (λ (a b : Bool). a || b) (gn .empty) (gp .empty ∙ any-ext n (λ k. eqb (getD (columns n t) k 0) 0) (λ k. eqb (col n t k) 0) (λ k l. ap (λ (w : ℕ). eqb w 0) (col-at k l)))
+      ap₂ (λ (a b : Bool). a || b) (gn .empty) (gp .empty ∙ any-ext n (λ k. eqb (getD (columns n t) k 0) 0) (λ k. eqb (col n t k) 0) (λ k l. ap (λ (w : ℕ). eqb w 0) (column-at n t le k l)))
       ∙ sym (any-or n (λ k. eqb (getD t k 0) 0) (λ k. eqb (col n t k) 0))
 
   row-fits : (k : ℕ) → k < n → getD t k 0 < 2 ^ 64
   row-fits k l = lt-of-lt-of-le (stray-row n t le clean k l) (pow-mono le)
 
   col-fits : (k : ℕ) → k < n → getD (columns n t) k 0 < 2 ^ 64
-  unfolding col
-  col-fits k l = lt-of-lt-of-le (ap-lt (col-at k l) (setOf-lt n (λ i. leg t i k))) (pow-mono le)
-    where
-      ap-lt : {a b c : ℕ} → a ≡ b → b < c → a < c
-      ap-lt e h = omega arith
+  col-fits k l = lt-of-lt-of-le (columns-square n t le k l) (pow-mono le)
 
   goes : ℕ → ℕ → Bool
   goes i j = nextTaken n t i j || prevTaken n (columns n t) i j
@@ -107,7 +99,7 @@ module _ (n : ℕ) (t : List ℕ) (le : n ≤ 64) (clean : stray n t ≡ false) 
         let cols = columns n t in
         rw (gp .which j (lt-of-lt-of-le lj le), gp .twice i low, gp .once i low, lt-ltb j n lj)
         (by-column (any n (λ k. only cols i k && any k (only cols i))) (any n (only cols i)) (single (getD cols j 0)) (twice-once n (only cols i))
-        ∙ ap not (another n cols col-fits j i lj low (ap (λ (w : ℕ). has w i) (col-at j lj) ∙ has-setOf n (λ k. leg t k j) i li ∙ stands)))
+        ∙ ap not (another n cols col-fits j i lj low (ap (λ (w : ℕ). has w i) (column-at n t le j lj) ∙ has-setOf n (λ k. leg t k j) i li ∙ stands)))
 
     keeps-is : keeps next prev i j ≡ not (goes i j)
     unfolding goes

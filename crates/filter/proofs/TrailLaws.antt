@@ -4,26 +4,24 @@ use mathlib.Core.Logic.{_≢_, _⊎_, inl, inr, ⊎-elim}
 use mathlib.Core.Bool.{Bool, true, false, not, _&&_, _||_}
 use mathlib.Core.List.{List}
 use Prim.Native.Nat.{ℕ, zero, suc, pred, _^_, _≤_, _<_}
-use native.Mathlib.Nat.{le-refl, lt-of-lt-of-le, le-of-suc-le-suc, eq-or-lt-of-le, not-suc-le-zero}
+use native.Mathlib.Nat.{le-refl, le-of-suc-le-suc, eq-or-lt-of-le, not-suc-le-zero}
 use native.Mathlib.Omega.{arith}
 use lib.Dec.{eqb, ltb}
 use lib.ListN.{getD}
-use lib.Pow.{pow-lt}
 use borrow.Author.Tests.{eqb-true, eqb-false, eq-eqb, ltb-true, not-true}
 use Rattle.bitset.specs.Sets.{has, any, first, size}
 use Rattle.bitset.specs.Tests.{Decides}
 use Rattle.bitset.specs.Upto.{row}
-use Rattle.bitset.proofs.BoolLaws.{iff, not-both, cases, clash, is-false, and-intro, and-l, and-r, or-l, or-r, or-cases, or-false-l, or-false-r, cond-elim}
+use Rattle.bitset.proofs.BoolLaws.{not-both, cases, clash, is-false, and-intro, and-l, and-r, or-l, or-r, or-cases, or-false-l, or-false-r, cond-elim}
 use Rattle.bitset.proofs.FirstLaws.{first-at, before-first}
-use Rattle.bitset.proofs.HasLaws.{has-zero, ext}
+use Rattle.bitset.proofs.HasLaws.{has-zero}
 use Rattle.bitset.proofs.OnesLaws.{count-le, size-one}
 use Rattle.bitset.proofs.QuantLaws.{any-intro, any-elim, any-false}
-use Rattle.bitset.proofs.SetLaws.{setOf-lt, has-setOf, none-zero, no-member, has-self, has-one}
-use Rattle.bitset.proofs.UptoLaws.{getD-upto}
+use Rattle.bitset.proofs.SetLaws.{setOf-lt, has-setOf, none-zero, no-member, has-self, has-one, pow-only}
 use Rattle.circuit.specs.Legs.{leg, col, columns, without}
 use Rattle.circuit.specs.State.{stray}
 use Rattle.circuit.specs.Verdict.{saysNone, leaves}
-use Rattle.circuit.proofs.LegsLaws.{tableOf-leg, leg-tableOf}
+use Rattle.circuit.proofs.LegsLaws.{tableOf-leg, leg-tableOf, column-at}
 use Rattle.circuit.proofs.StateLaws.{stray-row}
 use Rattle.filter.specs.Chain.{compulsory, compulsories, forked, nexts, along, joined, looped, closes, chain}
 use Rattle.filter.specs.Trail.{Compulsory, Splits, Fork, Trail, Different, Loop, Closing, ChainSays}
@@ -31,16 +29,7 @@ use Rattle.filter.proofs.NextLaws.{next-leg, same-next, same-previous, 
 
 -- ---- compulsory legs
 
--- a set with the only member j
-pow-only : (n w j : ℕ) → w < 2 ^ n → j < n → has w j ≡ true → ((k : ℕ) → k < n → has w k ≡ true → k ≡ j) → w ≡ 2 ^ j
-pow-only n w j h l e only =
-    ext n w (2 ^ j) h (pow-lt l) (λ k lk.
-    iff (has w k) (has (2 ^ j) k) (λ q. ap (has (2 ^ j)) (only k lk q) ∙ has-self j) (λ q. ap (has w) (has-one j k q) ∙ e))
-
 module _ (n : ℕ) (t : List ℕ) (le : n ≤ 64) (clean : stray n t ≡ false) where
-  column : (j : ℕ) → j < n → row (columns n t) j ≡ col n t j
-  column j l = getD-upto 64 (col n t) 0 j (lt-of-lt-of-le l le)
-
   col-leg : (i j : ℕ) → i < n → has (col n t j) i ≡ leg t i j
   unfolding col
   col-leg i j l = has-setOf n (λ i. leg t i j) i l
@@ -53,7 +42,7 @@ module _ (n : ℕ) (t : List ℕ) (le : n ≤ 64) (clean : stray n t ≡ false) 
 
   compulsory-in : (i j : ℕ) → i < n → j < n → eqb (row (columns n t) j) (2 ^ i) ≡ true → Compulsory n t i j
   compulsory-in i j li lj e =
-      let is = sym (column j lj) ∙ eqb-true (row (columns n t) j) (2 ^ i) e in
+      let is = sym (column-at n t le j lj) ∙ eqb-true (row (columns n t) j) (2 ^ i) e in
       record {
         from = li;
         to = lj;
@@ -69,7 +58,7 @@ module _ (n : ℕ) (t : List ℕ) (le : n ≤ 64) (clean : stray n t ≡ false) 
       (λ only.
       or-r (eqb (row t i) (2 ^ j))
       (eq-eqb (row (columns n t) j) (2 ^ i)
-      (column j (c .to)
+      (column-at n t le j (c .to)
       ∙ pow-only n (col n t j) i (setOf-lt n (λ i. leg t i j)) (c .from) (col-leg i j (c .from) ∙ c .stands) (λ k l q. only k l (sym (col-leg k j l) ∙ q)))))
       (c .only)
 
