@@ -23,6 +23,7 @@ use Rattle.bitset.proofs.MachineLaws.{wide, trailing-first, shl-one, has-insert
 use Rattle.bitset.proofs.QuantLaws.{below?}
 use Rattle.bitset.proofs.SetLaws.{has-setOf, setOf-none, setOf-lt, eq-setOf, setOf-ext}
 use Rattle.circuit.specs.Legs.{leg}
+use Rattle.circuit.specs.inner.Tables.{Square}
 use Rattle.filter.specs.Chain.{nexts, along, joined}
 use Rattle.filter.proofs.NextLaws.{next-at, next-beyond}
 
@@ -31,7 +32,7 @@ module _ (n : ℕ) (m : List ℕ) (le : n ≤ 64) where
   s = nexts n m
 
   -- an empty row leads nowhere
-  pub next-none : (i : ℕ) → i < n → row m i ≡ 0 → n ≤ getD s i n
+  next-none : (i : ℕ) → i < n → row m i ≡ 0 → n ≤ getD s i n
   unfolding leg
   next-none i l e =
       let q = next-at n m i l in
@@ -39,11 +40,12 @@ module _ (n : ℕ) (m : List ℕ) (le : n ≤ 64) where
       (λ g. g) (below? (getD s i n) n)
 
   -- another leads to its lowest
-  pub next-some : (i : ℕ) → i < n → 0 < row m i → row m i < 2 ^ n → (trailingZeros 64 (row m i) < n) × (getD s i n ≡ trailingZeros 64 (row m i))
+  next-some : (i t : ℕ) → i < n → 0 < row m i → row m i < 2 ^ n → t ≡ trailingZeros 64 (row m i) → (t < n) × (getD s i n ≡ t)
   unfolding leg
-  next-some i l p h =
+  next-some i t l p h e =
       let w = row m i in
-      (member-below n w (trailingZeros 64 w) h (trailing-least 64 w p (wide le h) .member), next-at n m i l ∙ trailing-first le w p h)
+      let low = member-below n w (trailingZeros 64 w) h (trailing-least 64 w p (wide le h) .member) in
+      (omega arith, next-at n m i l ∙ trailing-first le w p h ∙ sym e)
 
   module _ (a : ℕ) where
     -- one leg more
@@ -70,17 +72,33 @@ module _ (n : ℕ) (m : List ℕ) (le : n ≤ 64) where
         let e : (f - k) + k ≡ f = omega arith in
         setOf-ext n (joined n s k a) (joined n s f a) (λ b l. sym (stopped k (f - k) b l g) ∙ ap (λ (x : ℕ). joined n s x a b) e)
 
-    -- ---- the loop: before it, a turn, and the way out where the row is empty
-
-    pub walk-start : 0 ≡ setOf n (joined n s 0 a)
-    unfolding joined any
-    walk-start = sym (setOf-none n)
-
-    pub walk-turn : (k c met : ℕ) → c < n → along n s k a ≡ c → met ≡ setOf n (joined n s k a) → (t : ℕ) → t < n → getD s c n ≡ t
+    walk-turn : (k c met : ℕ) → c < n → along n s k a ≡ c → met ≡ setOf n (joined n s k a) → (t : ℕ) → t < n → getD s c n ≡ t
         → (along n s (k + 1) a ≡ t) × (bitOr met ((1 * 2 ^ t) % 2 ^ 64) ≡ setOf n (joined n s (k + 1) a))
     walk-turn k c met l e q t lt d =
         let on : along n s (suc k) a ≡ t = ap (λ (x : ℕ). getD s x n) e ∙ d in
         rw add-one (on, ap₂ (λ (x y : ℕ). bitOr x y) q (shl-one 64 t (lt-of-lt-of-le lt le)) ∙ walk-more k t lt on)
 
-    pub walk-out : (k f c met : ℕ) → k ≤ f → c < n → along n s k a ≡ c → met ≡ setOf n (joined n s k a) → row m c ≡ 0 → met ≡ setOf n (joined n s f a)
-    walk-out k f c met h l e q z = q ∙ walk-stop k f h (subst (λ (x : ℕ). n ≤ getD s x n) (sym e) (next-none c l z))
+-- ---- the loop
+
+-- k legs lead from a to c, and `met` has the stations on the way
+abbrev pub Walked : List ℕ → ℕ → ℕ → ℕ → ℕ → Type 0
+Walked m a k c met = (n : ℕ) → n ≤ 64 → a < n → Square n m → (c < n) × (along n (nexts n m) k a ≡ c) × (met ≡ setOf n (joined n (nexts n m) k a))
+
+module _ (m : List ℕ) (a : ℕ) where
+  pub walked-start : Walked m a 0 a 0
+  unfolding joined any
+  walked-start n le l sq = (l, refl, sym (setOf-none n))
+
+  module _ (k c met : ℕ) (walked : Walked m a k c met) where
+    pub walked-turn : (t : ℕ) → 0 < row m c → t ≡ trailingZeros 64 (row m c) → Walked m a (k + 1) t (bitOr met ((1 * 2 ^ t) % 2 ^ 64))
+    walked-turn t p e n le l sq =
+        let w = walked n le l sq in
+        let f = next-some n m le c t (w .0) p (sq c (w .0)) e in
+        let on = walk-turn n m le a k c met (w .0) (w .1) (w .2) t (f .0) (f .1) in
+        (f .0, on .0, on .1)
+
+    -- where the row is empty, no leg leads on
+    pub walked-out : (f n : ℕ) → k ≤ f → row m c ≡ 0 → n ≤ 64 → a < n → Square n m → met ≡ setOf n (joined n (nexts n m) f a)
+    walked-out f n h z le l sq =
+        let w = walked n le l sq in
+        w .2 ∙ walk-stop n m le a k f h (subst (λ (x : ℕ). n ≤ getD (nexts n m) x n) (sym (w .1)) (next-none n m le c (w .0) z))

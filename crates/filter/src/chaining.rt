@@ -69,7 +69,7 @@ fn joined_from(legs: &[u64; 64], most: usize, a: usize) -> u64
         if w == 0 {
             return met;
         }
-        at = u64::trailing_zeros(w) as usize;
+        at = bitset::lowest(w) as usize;
         met |= 1u64 << at;
         k += 1;
     }
