@@ -120,10 +120,10 @@ module _ (n : ℕ) (m : List ℕ) (le : n ≤ 64) where
   abbrev prev : ℕ → ℕ
   prev j = getD (nexts n (columns n m)) j n
 
-  column : (j : ℕ) → j < n → row (columns n m) j ≡ col n m j
+  pub column : (j : ℕ) → j < n → row (columns n m) j ≡ col n m j
   column j l = getD-upto 64 (col n m) 0 j (lt-of-lt-of-le l le)
 
-  column-leg : (i j : ℕ) → i < n → j < n → leg (columns n m) j i ≡ leg m i j
+  pub column-leg : (i j : ℕ) → i < n → j < n → leg (columns n m) j i ≡ leg m i j
   unfolding leg col
   column-leg i j li lj = ap (λ (w : ℕ). has w i) (column j lj) ∙ has-setOf n (λ i. leg m i j) i li
 

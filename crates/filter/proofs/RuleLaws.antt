@@ -3,15 +3,17 @@ use mathlib.Core.Path.{_≡_, refl}
 use mathlib.Core.Bool.{false}
 use mathlib.Core.List.{List}
 use Prim.Native.Nat.{ℕ, zero, suc, pred, _≤_, _<_}
+use native.Mathlib.Nat.{le-of-suc-le-suc}
 use native.Mathlib.Omega.{arith}
 use Rattle.circuit.specs.Round.{All}
 use Rattle.circuit.specs.Verdict.{Sound}
 use Rattle.circuit.specs.State.{lastPlace}
 use Rattle.bitset.proofs.OutsideLaws.{inside, not-outside}
 use Rattle.filter.specs.declared.rule.Rule.{Rule}
-use Rattle.filter.specs.declared.rule.Rule.the-variants.{Sweep, Pass}
+use Rattle.filter.specs.declared.rule.Rule.the-variants.{Sweep, Chain, Pass}
 use Rattle.filter.specs.Rule.{says, straySeed, ruleAt}
 use Rattle.filter.proofs.SweepLaws.{sweep-sound}
+use Rattle.filter.proofs.ChainLaws.{chain-sound}
 use Rattle.filter.proofs.PassLaws.{pass-sound}
 
 -- the index of a seed that is not stray
@@ -21,8 +23,10 @@ seed-in n seed h = omega (arith, h .0, h .1)
 pub says-sound : (r : Rule) (n : ℕ) (t : List ℕ) (limit : ℕ) → n ≤ 64 → straySeed n r ≡ false → Sound All n t (says r n t limit)
 unfolding says
 says-sound Sweep n t limit le f = sweep-sound n t le
+says-sound Chain n t limit le f = chain-sound n t le
 says-sound (Pass seed) n t limit le f = pass-sound n t limit (pred seed) (seed-in n seed (inside 1 n seed f)) le
 
 pub place-fits : (n k : ℕ) → k ≤ lastPlace n → straySeed n (ruleAt k) ≡ false
 place-fits n zero h = refl
-place-fits n (suc r) h = not-outside 1 n (suc r) (omega arith) h
+place-fits n (suc zero) h = refl
+place-fits n (suc (suc r)) h = not-outside 1 n (suc r) (omega arith) (le-of-suc-le-suc h)
