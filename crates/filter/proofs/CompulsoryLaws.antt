@@ -8,7 +8,7 @@ use native.Mathlib.Omega.{arith}
 use lib.Bits.{bitAnd, and-le-l}
 use lib.Count.{ones}
 use lib.Dec.{eqb, ltb}
-use lib.ListN.{getD, set, replicate, length-replicate, getD-replicate}
+use lib.ListN.{set, replicate, length-replicate, getD-replicate}
 use borrow.Author.Tests.{lt-ltb, le-ltb}
 use Rattle.bitset.specs.Sets.{has, any, setOf, size}
 use Rattle.bitset.specs.Upto.{row}
@@ -104,7 +104,7 @@ word-lt n v once h = cond-elim (λ (x : ℕ). x < 2 ^ n) (single v) v (bitAnd v 
 
 -- ---- the tables
 
-column-none : (n : ℕ) (m : List ℕ) → Square n m → (j : ℕ) → n ≤ j → col n m j ≡ 0
+pub column-none : (n : ℕ) (m : List ℕ) → Square n m → (j : ℕ) → n ≤ j → col n m j ≡ 0
 unfolding col leg
 column-none n m sq j g = setOf-ext n (λ i. leg m i j) (λ i. false) (λ i l. has-above n (row m i) j (sq i l) g) ∙ setOf-none n
 

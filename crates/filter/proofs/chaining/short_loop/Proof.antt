@@ -6,7 +6,7 @@ use Prim.Native.Nat.{ℕ, pred, _-_, _<_}
 use native.Mathlib.Nat.{lt-of-lt-of-le}
 use native.Mathlib.Omega.{arith}
 use lib.Count.{trailingZeros}
-use Rattle.bitset.specs.Sets.{has, setOf}
+use Rattle.bitset.specs.Sets.{has}
 use Rattle.bitset.proofs.HasLaws.{member-below}
 use Rattle.bitset.proofs.LeastLaws.{trailing-least}
 use Rattle.bitset.proofs.SetLaws.{word-has}
