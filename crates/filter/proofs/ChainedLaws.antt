@@ -4,6 +4,7 @@ use mathlib.Core.Logic.{⊎-elim}
 use mathlib.Core.Bool.{Bool, true, false, not, _&&_, _||_}
 use mathlib.Core.List.{List}
 use Prim.Native.Nat.{ℕ, _-_, _^_, _≤_, _<_}
+use native.Mathlib.Nat.{lt-of-lt-of-le}
 use native.Mathlib.Omega.{arith}
 use lib.Bits.{bitAnd}
 use lib.Count.{ones}
@@ -28,19 +29,25 @@ use Rattle.filter.specs.declared.sweeping.Singles.{Singles}
 use Rattle.filter.specs.inner.Chains.{compulsoryWords, CompulsoryOf, ChainsOf, ShortLoop}
 use Rattle.filter.specs.inner.Singles.{SinglesOf}
 use Rattle.filter.proofs.CompulsoryLaws.{column-none, compulsory-rows, compulsory-columns, forked-is}
-use Rattle.filter.proofs.LoopLaws.{columns-square, compulsories-square, closing-table, short-loop}
+use Rattle.filter.proofs.LoopLaws.{Marks, columns-square, compulsories-square, closing-table, short-loop}
 
 -- `out` and `into` are the compulsory legs out of the stations and into them
 pub record Gathered (n : ℕ) (t : List ℕ) (out into : Compulsory) : Type 0 where
+  pub most : n ≤ 64
+  pub out-fits : out .some < 2 ^ 64
+  pub into-fits : into .some < 2 ^ 64
   pub legs : into .legs ≡ columns n (compulsories n t)
   pub leave : (k : ℕ) → k < 64 → has (out .some) k ≡ ltb 0 (row (compulsories n t) k)
   pub enter : (k : ℕ) → k < 64 → has (into .some) k ≡ ltb 0 (row (columns n (compulsories n t)) k)
   pub forked : out .forked || into .forked ≡ forked n (compulsories n t)
 
 pub gathered : (n : ℕ) (t : List ℕ) → n ≤ 64 → stray n t ≡ false → (cols : List ℕ) → cols ≡ columns n t → (next prev : Singles) → SinglesOf n t next → SinglesOf n cols prev
-    → (out into : Compulsory) → CompulsoryOf n t (prev .which) out → CompulsoryOf n cols (next .which) into → Gathered n t out into
-gathered n t le clean cols is next prev gn gp out into co ci =
+    → (out into : Compulsory) → out .some < 2 ^ 64 → into .some < 2 ^ 64 → CompulsoryOf n t (prev .which) out → CompulsoryOf n cols (next .which) into → Gathered n t out into
+gathered n t le clean cols is next prev gn gp out into fo fi co ci =
     record {
+      most = le;
+      out-fits = fo;
+      into-fits = fi;
       legs = ci .legs ∙ in-is;
       leave = λ k l. co .some k l ∙ ap (λ (u : List ℕ). ltb 0 (row u k)) out-is;
       enter = λ k l. ci .some k l ∙ ap (λ (u : List ℕ). ltb 0 (row u k)) in-is;
@@ -73,7 +80,10 @@ module _ (n : ℕ) (t : List ℕ) where
   unfolding chain
   chain-left e f = cond-false (saysNone t) (leaves (without n t (closes n m s))) (or-none e f)
 
-module _ {n : ℕ} {t : List ℕ} {out into : Compulsory} (le : n ≤ 64) (fo : out .some < 2 ^ 64) (fi : into .some < 2 ^ 64) (g : Gathered n t out into) where
+module _ {n : ℕ} {t : List ℕ} {out into : Compulsory} (g : Gathered n t out into) where
+  le : n ≤ 64
+  le = g .most
+
   pub fork-none : out .forked || into .forked ≡ true → chain n t ≡ saysNone t
   fork-none e = chain-none n t (or-l (looped n (s n t)) (sym (g .forked) ∙ e))
 
@@ -86,7 +96,7 @@ module _ {n : ℕ} {t : List ℕ} {out into : Compulsory} (le : n ≤ 64) (fo : 
     where
       station : (j : ℕ) → has (into .some) j ≡ true → j < n
       station j q =
-          let low = member-below 64 (into .some) j fi q in
+          let low = member-below 64 (into .some) j (g .into-fits) q in
           let some : 0 < row (columns n (m n t)) j = ltb-true 0 (row (columns n (m n t)) j) (sym (g .enter j low) ∙ q) in
           let none : n ≤ j → ⊥ = λ h. omega (arith, some, getD-upto 64 (col n (m n t)) 0 j low, column-none n (m n t) (compulsories-square n t le) j h) in
           ⊎-elim (λ h. h) (λ h. absurd (none h)) (below? j n)
@@ -110,12 +120,18 @@ module _ {n : ℕ} {t : List ℕ} {out into : Compulsory} (le : n ≤ 64) (fo : 
     chains = subst (λ (u : List ℕ). ChainsOf n (nexts n u) (into .some) ends r) (g .legs) found
 
     last : (b : ℕ) → b < n → has ends b ≡ has (into .some) b && not (has (out .some) b)
-    last b l = has-diff 64 (into .some) (out .some) b fo (omega arith)
+    last b l = has-diff 64 (into .some) (out .some) b (g .out-fits) (lt-of-lt-of-le l le)
+
+    enter : Marks n (columns n (m n t)) (into .some)
+    enter a l = g .enter a (lt-of-lt-of-le l le)
+
+    leave : Marks n (m n t) (out .some)
+    leave a l = g .leave a (lt-of-lt-of-le l le)
 
     loop-is : q ≡ looped n (s n t)
     loop-is =
-        short-loop n (m n t) le (compulsories-square n t le) unforked (into .some) (out .some) ends (λ a l. g .enter a (omega arith)) (λ a l. g .leave a (omega arith)) last r chains
-        rest (λ a l. has-diff 64 (into .some) (r .met) a fr (omega arith)) q (subst (λ (u : List ℕ). ShortLoop n (nexts n u) rest q) (g .legs) loop)
+        short-loop n (m n t) le (compulsories-square n t le) unforked (into .some) (out .some) ends enter leave last r chains
+        rest (λ a l. has-diff 64 (into .some) (r .met) a fr (lt-of-lt-of-le l le)) q (subst (λ (u : List ℕ). ShortLoop n (nexts n u) rest q) (g .legs) loop)
 
     pub loop-none : q ≡ true → chain n t ≡ saysNone t
     loop-none e = chain-none n t (or-r (forked n (m n t)) (sym loop-is ∙ e))
@@ -123,4 +139,4 @@ module _ {n : ℕ} {t : List ℕ} {out into : Compulsory} (le : n ≤ 64) (fo : 
     pub closed-left : q ≡ false → (left : List ℕ) → left ≡ without n t (leg (r .closing)) → chain n t ≡ leaves left
     closed-left e left is =
         chain-left n t unforked (sym loop-is ∙ e)
-        ∙ ap leaves (sym (is ∙ closing-table n (m n t) le (compulsories-square n t le) unforked (into .some) (out .some) ends (λ a l. g .enter a (omega arith)) (λ a l. g .leave a (omega arith)) last t r chains))
+        ∙ ap leaves (sym (is ∙ closing-table n (m n t) le (compulsories-square n t le) unforked (into .some) (out .some) ends enter leave last t r chains))

@@ -35,18 +35,16 @@ tested c = c .before .before .before .before
 
 legs : (c : tie.After-compulsory-legs2) → Gathered (start c .args .n) (start c .args .rows .now) (c .before .compulsory-legs .result) (c .compulsory-legs2 .result)
 legs c =
+    let fo : Fits w64 (c .before .compulsory-legs .result .some) = search needs in
+    let fi : Fits w64 (c .compulsory-legs2 .result .some) = search needs in
     let s = start c in
     let C = s .pre .2 in
     let prev = c .before .before .before in
     let next = prev .before in
+    let out = c .before .compulsory-legs in
+    let into = c .compulsory-legs2 in
     gathered (s .args .n) (s .args .rows .now) (s .pre .1) (C .clean) (s .args .cols .now) (C .columns) (next .single-words .result) (prev .single-words2 .result) (next .single-words .ensures) (prev .single-words2 .ensures)
-    (c .before .compulsory-legs .result) (c .compulsory-legs2 .result) (c .before .compulsory-legs .ensures) (c .compulsory-legs2 .ensures)
-
-out-fits : (c : tie.After-compulsory-legs2) → c .before .compulsory-legs .result .some < 2 ^ 64
-out-fits c = let f : Fits w64 (c .before .compulsory-legs .result .some) = search needs in f .fits
-
-into-fits : (c : tie.After-compulsory-legs2) → c .compulsory-legs2 .result .some < 2 ^ 64
-into-fits c = let f : Fits w64 (c .compulsory-legs2 .result .some) = search needs in f .fits
+    (out .result) (into .result) (fo .fits) (fi .fits) (out .ensures) (into .ensures)
 
 met-fits : (c : tie.After-find-chains) → c .find-chains .result .met < 2 ^ 64
 met-fits c = let f : Fits w64 (c .find-chains .result .met) = search needs in f .fits
@@ -72,26 +70,26 @@ compulsory-legs-requires-2 : tie.Need-compulsory-legs-requires-2
 compulsory-legs-requires-2 c κs = search needs
 
 returns : tie.Need-returns
-returns c = let b = c .before .before .before in untouched b (fork-none (start b .pre .1) (out-fits b) (into-fits b) (legs b) (c .if1 .taken))
+returns c = let b = c .before .before .before in untouched b (fork-none (legs b) (c .if1 .taken))
 
 find-chains-requires : tie.Need-find-chains-requires
 find-chains-requires c κs =
     let b = single (c .before .before .before .before) in
     let s = start b in
-    (s .pre .0, s .pre .1, part-lt (s .pre .1) (out-fits b) (into-fits b) (legs b) _, legs-square (s .pre .1) (out-fits b) (into-fits b) (legs b))
+    (s .pre .0, s .pre .1, part-lt (legs b) _, legs-square (legs b))
 
 short-loop-requires : tie.Need-short-loop-requires
 short-loop-requires c κs =
     let b = single (walked (c .before .before .before)) in
     let s = start b in
-    (omega (arith, s .pre .0), s .pre .1, part-lt (s .pre .1) (out-fits b) (into-fits b) (legs b) _, legs-square (s .pre .1) (out-fits b) (into-fits b) (legs b))
+    (omega (arith, s .pre .0), s .pre .1, part-lt (legs b) _, legs-square (legs b))
 
 returns-2 : tie.Need-returns-2
 returns-2 c =
     let found = tested (c .before) in
     let e = walked found in
     let b = single e in
-    untouched b (loop-none (start b .pre .1) (out-fits b) (into-fits b) (legs b) (e .if1 .left) (found .find-chains .result) (met-fits found) (found .find-chains .ensures) _ (c .before .short-loop .ensures) (c .if2 .taken))
+    untouched b (loop-none (legs b) (e .if1 .left) (found .find-chains .result) (met-fits found) (found .find-chains .ensures) _ (c .before .short-loop .ensures) (c .if2 .taken))
 
 strike-closing-requires : tie.Need-strike-closing-requires
 strike-closing-requires c κs =
@@ -110,7 +108,7 @@ returns-3 c =
     let C = s .pre .2 in
     let left = c .strike-closing .ensures .0 in
     record {
-      verdict = closed-left (s .pre .1) (out-fits b) (into-fits b) (legs b) (e .if1 .left) (found .find-chains .result) (met-fits found) (found .find-chains .ensures) _ (t .before .short-loop .ensures) (t .if2 .left) _ left;
+      verdict = closed-left (legs b) (e .if1 .left) (found .find-chains .result) (met-fits found) (found .find-chains .ensures) _ (t .before .short-loop .ensures) (t .if2 .left) _ left;
       clean = ap (stray n) left ∙ stray-without n (s .args .rows .now) _ (s .pre .1) (C .clean);
       len = ap length left ∙ length-without n (s .args .rows .now) _;
       wide = ap length (C .columns) ∙ length-upto 64 (col n _);
