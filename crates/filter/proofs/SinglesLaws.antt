@@ -16,16 +16,34 @@ use Rattle.bitset.specs.Sets.{has, any, setOf}
 use Rattle.bitset.proofs.BoolLaws.{iff, not-both, clash, cases, and-intro, and-l, and-r, cond-true, cond-false, cond-elim, taut2}
 use Rattle.bitset.proofs.QuantLaws.{below?, any-intro, any-elim}
 use Rattle.bitset.proofs.HasLaws.{has-zero, has-and, has-or}
-use Rattle.bitset.proofs.SetLaws.{has-self, has-setOf, has-diff}
+use Rattle.bitset.proofs.SetLaws.{has-self, word-has, has-diff}
 use Rattle.bitset.proofs.OnesLaws.{ones-pow, ones-zero, pow-within, within-eq}
 use Rattle.filter.specs.declared.sweeping.Singles.{Singles}
 use Rattle.filter.specs.inner.Singles.{single, only, SinglesOf, keeps}
 
 -- ---- a turn of the loop
 
-any-next : (k : ℕ) (p : ℕ → Bool) → any (k + 1) p ≡ any k p || p k
+pub any-next : (k : ℕ) (p : ℕ → Bool) → any (k + 1) p ≡ any k p || p k
 unfolding any
 any-next k p = ap (λ (m : ℕ). any m p) (add-one k) ∙ or-comm (p k) (any k p)
+
+-- the number k joins a set, where it passes
+pub joins : (p : ℕ → Bool) (k w set r : ℕ) → ltb 0 w ≡ p k → r ≡ setOf 64 (λ j. has set j || eqb j k && ltb 0 w) → ((j : ℕ) → j < 64 → has set j ≡ ltb j k && p j)
+    → (j : ℕ) → j < 64 → has r j ≡ ltb j (k + 1) && p j
+joins p k w set r e gives is j l =
+    word-has 64 (λ j. has set j || eqb j k && ltb 0 w) gives j l ∙ ap (λ (b : Bool). b || eqb j k && ltb 0 w) (is j l) ∙ ⊎-elim here other (cases (eqb j k))
+  where
+    here : eqb j k ≡ true → ltb j k && p j || eqb j k && ltb 0 w ≡ ltb j (k + 1) && p j
+    here q =
+        let eq : j ≡ k = eqb-true j k q in
+        rw (q, le-ltb j k (omega arith), lt-ltb j (k + 1) (omega arith), e, eq)
+
+    other : eqb j k ≡ false → ltb j k && p j || eqb j k && ltb 0 w ≡ ltb j (k + 1) && p j
+    other q =
+        let ne : j ≡ k → ⊥ = eqb-false j k q in
+        let up : ltb j k ≡ ltb j (k + 1) =
+        ⊎-elim (λ (l : j < k). lt-ltb j k l ∙ sym (lt-ltb j (k + 1) (omega arith))) (λ (g : k ≤ j). le-ltb j k g ∙ sym (le-ltb j (k + 1) (omega arith))) (below? j k) in
+        rw (q, up) (or-false (ltb j (k + 1) && p j))
 
 -- no word so far
 pub singles-start : (words : List ℕ) → SinglesOf 0 words (record { empty = false; which = 0; once = 0; twice = 0 })
@@ -48,7 +66,7 @@ pub singles-turn : (words : List ℕ) (k which w : ℕ) (r : Singles) → w ≡ 
 singles-turn words k which w r e gives s =
     record {
       empty = ap (λ (b : Bool). b || eqb (getD words k 0) 0) (s .empty) ∙ sym (any-next k (λ m. eqb (getD words m 0) 0));
-      which = λ j l. ap (λ (x : ℕ). has x j) gives ∙ has-setOf 64 (λ j. has (r .which) j || eqb j k && ltb 0 w) j l ∙ ap (λ (b : Bool). b || eqb j k && ltb 0 w) (s .which j l) ∙ ⊎-elim (here j) (other j) (cases (eqb j k));
+      which = joins (λ j. single (getD words j 0)) k w (r .which) which (ap (ltb 0) e ∙ single-some (getD words k 0)) gives (s .which);
       once = λ j l. has-or (r .once) w j ∙ ap₂ (λ (a b : Bool). a || b) (s .once j l) (at j) ∙ sym (any-next k (only words j));
       twice = λ j l.
           has-or (r .twice) (bitAnd (r .once) w) j
@@ -58,18 +76,6 @@ singles-turn words k which w r e gives s =
   where
     at : (j : ℕ) → has w j ≡ only words j k
     at j = ap (λ (x : ℕ). has x j) e
-
-    here : (j : ℕ) → eqb j k ≡ true → ltb j k && single (getD words j 0) || eqb j k && ltb 0 w ≡ ltb j (k + 1) && single (getD words j 0)
-    here j q =
-        let eq : j ≡ k = eqb-true j k q in
-        rw (q, le-ltb j k (omega arith), lt-ltb j (k + 1) (omega arith), e, single-some (getD words k 0), eq)
-
-    other : (j : ℕ) → eqb j k ≡ false → ltb j k && single (getD words j 0) || eqb j k && ltb 0 w ≡ ltb j (k + 1) && single (getD words j 0)
-    other j q =
-        let ne : j ≡ k → ⊥ = eqb-false j k q in
-        let up : ltb j k ≡ ltb j (k + 1) =
-        ⊎-elim (λ (l : j < k). lt-ltb j k l ∙ sym (lt-ltb j (k + 1) (omega arith))) (λ (g : k ≤ j). le-ltb j k g ∙ sym (le-ltb j (k + 1) (omega arith))) (below? j k) in
-        rw (q, up) (or-false (ltb j (k + 1) && single (getD words j 0)))
 
 -- ---- the members
 

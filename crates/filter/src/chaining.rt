@@ -15,7 +15,7 @@ ghost use Rattle.filter.specs.inner.Chains.{compulsoryWord, CompulsoryOf
 ghost use Rattle.filter.specs.inner.Steps.{RowsTaken};
 
 // The compulsory legs of the stations on one side, out or in: those of each station, the stations that have some, and whether one has two.
-struct Compulsory {
+struct CompulsoryLegs {
     legs: [u64; 64],
     some: u64,
     forked: bool,
@@ -38,7 +38,7 @@ fn compulsory_word(word: u64, once: u64) -> u64
 }
 
 // The compulsory legs of the first n words.
-fn compulsory_legs(words: &[u64; 64], n: usize, once: u64) -> Compulsory
+fn compulsory_legs(words: &[u64; 64], n: usize, once: u64) -> CompulsoryLegs
     requires { ⌜ n ≤ 64 ⌝ }
     ensures { λ r. ⌜ CompulsoryOf n (now (words .entry)) once r ⌝ }
 {
@@ -53,7 +53,7 @@ fn compulsory_legs(words: &[u64; 64], n: usize, once: u64) -> Compulsory
         forked = forked | (1 < u64::count_ones(w));
         i += 1;
     }
-    Compulsory { legs, some, forked }
+    CompulsoryLegs { legs, some, forked }
 }
 
 // The stations that 1 to `most` legs lead to from a, by the lowest leg of each. The code needs no n, so the promise is for any n.
@@ -69,7 +69,7 @@ fn joined_from(legs: &[u64; 64], most: usize, a: usize) -> u64
         if w == 0 {
             return met;
         }
-        at = u64::trailing_zeros(w) as usize;
+        at = bitset::lowest(w) as usize;
         met |= 1u64 << at;
         k += 1;
     }

@@ -9,7 +9,7 @@ use lib.Dec.{ltb}
 use Rattle.bitset.specs.Sets.{has, any}
 use Rattle.bitset.specs.Upto.{upto, row}
 use Rattle.filter.specs.Chain.{joined}
-use Rattle.filter.specs.declared.chaining.Compulsory.{Compulsory}
+use Rattle.filter.specs.declared.chaining.CompulsoryLegs.{CompulsoryLegs}
 use Rattle.filter.specs.declared.chaining.Chains.{Chains}
 use Rattle.filter.specs.inner.Singles.{single}
 
@@ -21,7 +21,7 @@ compulsoryWord word once = cond (single word) word (bitAnd word once)
 abbrev pub compulsoryWords : ℕ → List ℕ → ℕ → List ℕ
 compulsoryWords n words once = upto 64 (λ i. cond (ltb i n) (compulsoryWord (row words i) once) 0)
 
-pub record CompulsoryOf (n : ℕ) (words : List ℕ) (once : ℕ) (r : Compulsory) : Type 0 where
+pub record CompulsoryOf (n : ℕ) (words : List ℕ) (once : ℕ) (r : CompulsoryLegs) : Type 0 where
   pub legs : r .legs ≡ compulsoryWords n words once
   -- the stations that have some
   pub some : (i : ℕ) → i < 64 → has (r .some) i ≡ ltb 0 (row (compulsoryWords n words once) i)
