@@ -15,7 +15,13 @@ enum-told : tie.Need-enum-told
 enum-told c = search needs
 
 sweep-rows-requires : tie.Need-sweep-rows-requires
-sweep-rows-requires c κs = let s = c .before .before .before .before in (s .pre .0, s .pre .2)
+sweep-rows-requires c κs = let s = c .before .before .before .before in (s .pre .1, s .pre .3)
+
+enum-told-2 : tie.Need-enum-told-2
+enum-told-2 c = search needs
+
+chain-rows-requires : tie.Need-chain-rows-requires
+chain-rows-requires c κs = let s = c .before .before .before .before in (s .pre .0, s .pre .1, s .pre .3)
 
 enum-known-rule : tie.Need-enum-known-rule
 enum-known-rule c = search needs
@@ -32,7 +38,7 @@ start c = c .before .before
 seed-fits : (c : tie.After-rule) → (1 ≤ c .rule .given .0 .0) × (c .rule .given .0 .0 ≤ start c .args .n)
 seed-fits c =
     let n = start c .args .n in
-    inside 1 n (c .rule .given .0 .0) (sym (ap (straySeed n) (c .rule .given .1)) ∙ start c .pre .1)
+    inside 1 n (c .rule .given .0 .0) (sym (ap (straySeed n) (c .rule .given .1)) ∙ start c .pre .2)
 
 sub-pass-on : tie.Need-sub-pass-on
 sub-pass-on c = seed-fits (known c) .0
@@ -41,7 +47,7 @@ pass-on-requires : tie.Need-pass-on-requires
 pass-on-requires c κs =
     let s = start (known c) in
     let f = seed-fits (known c) in
-    (s .pre .0, omega (arith, f .0, f .1), s .pre .2)
+    (s .pre .1, omega (arith, f .0, f .1), s .pre .3)
 
 returns : tie.Need-returns
 unfolding says
@@ -53,6 +59,13 @@ returns c =
 returns-2 : tie.Need-returns-2
 unfolding says
 returns-2 c =
+    let told = c .before .before .before in
+    let a = told .before .before .args in
+    rows-as (ap (λ (r : Rule). says r (a .n) (a .rows .now) (a .limit)) (sym (told .enum-told2 .given .1))) (c .chain-rows .ensures)
+
+returns-3 : tie.Need-returns-3
+unfolding says
+returns-3 c =
     let k = known (c .before) in
     let a = start k .args in
     let index : k .rule .given .0 .0 - 1 ≡ pred (k .rule .given .0 .0) = omega (arith, seed-fits k .0) in
@@ -64,8 +77,11 @@ take-spec =
     (tie.spec
     enum-told
     sweep-rows-requires
+    enum-told-2
+    chain-rows-requires
     enum-known-rule
     sub-pass-on
     pass-on-requires
     returns
-    returns-2)
+    returns-2
+    returns-3)

@@ -22,7 +22,7 @@ taken c = c .before .before .before
 columns-requires : tie.Need-columns-requires
 columns-requires c κs =
     let t = c .before .before in
-    (start t .pre .0, stray-row _ _ (start t .pre .0) (t .take .ensures .clean))
+    (start t .pre .1, stray-row _ _ (start t .pre .1) (t .take .ensures .clean))
 
 copy-words-requires : tie.Need-copy-words-requires
 copy-words-requires c κs = search needs
