@@ -112,7 +112,7 @@ fn chain_of_63() -> LegTable {
     LegTable::from_legs(64, along.chain(last))
 }
 
-/// Legs that go, none, and neither, under every end and from every place.
+/// Legs that go, none, and neither, under every end.
 fn by_hand(script: &mut Script) {
     for table in [chain_among(4, 9), loop_among(4, 9), ring(4)] {
         for state in states_of(&table) {
@@ -132,11 +132,42 @@ fn random_tables(script: &mut Script) {
     }
 }
 
+/// Tables on which the passes of a cycle go wrong if they take the ends of a leg
+/// that its chain step struck for neighbours still.
+fn no_neighbours_any_more() -> [LegTable; 2] {
+    [
+        with_rows(
+            &LegTable::empty(5),
+            &[
+                (1, &[5]),
+                (2, &[3, 4]),
+                (3, &[2]),
+                (4, &[1, 2, 5]),
+                (5, &[1, 2, 3, 4]),
+            ],
+        ),
+        with_rows(
+            &LegTable::empty(8),
+            &[
+                (1, &[8]),
+                (2, &[3]),
+                (3, &[7]),
+                (4, &[1, 2, 5]),
+                (5, &[6]),
+                (6, &[2, 4, 5]),
+                (7, &[1, 2, 4, 5]),
+                (8, &[1, 2, 4]),
+            ],
+        ),
+    ]
+}
+
 /// Runs that stop before and after the chain step, at the last place and behind
 /// it, and whole ones.
 fn in_the_cycle(script: &mut Script) {
     let mut rng = Xorshift::new(602);
     let mut tables = vec![chain_among(4, 8), loop_among(4, 8), chain_among(4, 30)];
+    tables.extend(no_neighbours_any_more());
     for family in Family::FOR_CHAINS {
         tables.extend([5, 7, 11, 24].map(|n| family.table(&mut rng, n)));
     }

@@ -41,7 +41,7 @@ fn small_tables() -> Vec<LegTable> {
     ]
 }
 
-/// Legs that go, none, and neither, under every end and from every place.
+/// Legs that go, none, and neither, under every end.
 fn sweeps_by_hand(script: &mut Script) {
     for table in [nine_legs(), LegTable::empty(3), ring(4)] {
         for state in states_of(&table) {
