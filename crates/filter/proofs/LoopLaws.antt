@@ -7,7 +7,7 @@ use Prim.Native.Nat.{ℕ, zero, suc, pred, _≤_, _<_}
 use native.Mathlib.Omega.{arith}
 use lib.Dec.{eqb, ltb}
 use lib.ListN.{getD}
-use borrow.Author.Tests.{eqb-true, eq-eqb, ne-eqb, ltb-true, ltb-false, lt-ltb, le-ltb, not-true}
+use borrow.Author.Tests.{eq-eqb, ne-eqb, ltb-true, ltb-false, lt-ltb, le-ltb, not-true}
 use Rattle.bitset.specs.Sets.{has, any, first}
 use Rattle.bitset.specs.Upto.{row}
 use Rattle.bitset.proofs.BoolLaws.{iff, not-both, clash, cases, is-false, and-intro, and-l, and-r, or-l, or-r, or-cases, taut2, taut3}
@@ -24,7 +24,7 @@ use Rattle.filter.specs.Chain.{compulsory, compulsories, forked, nexts, 
 use Rattle.filter.specs.declared.chaining.Chains.{Chains}
 use Rattle.filter.specs.inner.Chains.{ChainsOf, ShortLoop}
 use Rattle.filter.proofs.MateLaws.{Mates, mates-swap, early, same-start, turned, entered, walk-short, everywhere}
-use Rattle.filter.proofs.NextLaws.{next-at, next-leg, same-previous, leg-next}
+use Rattle.filter.proofs.NextLaws.{joined-intro, joined-elim, next-at, next-leg, same-previous, leg-next}
 
 -- ---- stations on loops: a step leads in, and no walk against the steps meets them from an end
 
@@ -80,19 +80,6 @@ module _ {n : ℕ} {f g : ℕ → ℕ} (m : Mates n f g) where
           omega (arith, h .out)
 
 -- ---- the lists of the next stations of a table and of its columns
-
--- k legs, 1 to f
-joined-intro : (n : ℕ) (s : List ℕ) (f a b k : ℕ) → 0 < k → k ≤ f → along n s k a ≡ b → joined n s f a b ≡ true
-unfolding joined
-joined-intro n s f a b zero p l e = absurd (omega arith)
-joined-intro n s f a b (suc k) p l e = any-intro f (λ k. eqb (along n s (suc k) a) b) k (omega arith) (eq-eqb (along n s (suc k) a) b e)
-
-joined-elim : (n : ℕ) (s : List ℕ) (f a b : ℕ) → joined n s f a b ≡ true → (k : ℕ) × (0 < k) × (k ≤ f) × (along n s k a ≡ b)
-unfolding joined
-joined-elim n s f a b e =
-    let r = any-elim f (λ k. eqb (along n s (suc k) a) b) e in
-    let l : r .0 < f = r .1 in
-    (suc (r .0), omega arith, omega arith, eqb-true (along n s (suc (r .0)) a) b (r .2))
 
 -- a word has members where the list leads on
 some-next : (n : ℕ) (u : List ℕ) → Square n u → (a : ℕ) → a < n → ltb 0 (row u a) ≡ ltb (getD (nexts n u) a n) n

@@ -1,23 +1,36 @@
--- The list of the next stations, and the legs of the table that it stands for. Assumes nothing.
+-- The list of the next stations: where it leads, and the legs of the table that it stands for. Assumes nothing.
 use mathlib.Core.Path.{_≡_, sym, ap, _∙_, subst}
 use mathlib.Core.Logic.{⊎-elim}
 use mathlib.Core.Bool.{true, false, _||_}
 use mathlib.Core.List.{List}
-use Prim.Native.Nat.{ℕ, _≤_, _<_}
+use Prim.Native.Nat.{ℕ, zero, suc, _≤_, _<_}
 use native.Mathlib.Omega.{arith}
-use lib.Dec.{ltb}
+use lib.Dec.{eqb, ltb}
 use lib.ListN.{getD, List·getD-eq-default}
-use borrow.Author.Tests.{ltb-false}
+use borrow.Author.Tests.{eqb-true, eq-eqb, ltb-false}
 use Rattle.bitset.specs.Sets.{first, size}
 use Rattle.bitset.specs.Upto.{row}
 use Rattle.bitset.proofs.BoolLaws.{or-false-l, or-false-r}
 use Rattle.bitset.proofs.FirstLaws.{first-at, first-found}
 use Rattle.bitset.proofs.OnesLaws.{size-same}
-use Rattle.bitset.proofs.QuantLaws.{below?, any-false}
+use Rattle.bitset.proofs.QuantLaws.{below?, any-intro, any-elim, any-false}
 use Rattle.bitset.proofs.SetLaws.{has-setOf}
 use Rattle.bitset.proofs.UptoLaws.{getD-upto, length-upto}
 use Rattle.circuit.specs.Legs.{leg, col}
-use Rattle.filter.specs.Chain.{forked, nexts}
+use Rattle.filter.specs.Chain.{forked, nexts, along, joined}
+
+-- k legs lead from a to b, k from 1 to f
+pub joined-intro : (n : ℕ) (s : List ℕ) (f a b k : ℕ) → 0 < k → k ≤ f → along n s k a ≡ b → joined n s f a b ≡ true
+unfolding joined
+joined-intro n s f a b zero p l e = absurd (omega arith)
+joined-intro n s f a b (suc k) p l e = any-intro f (λ k. eqb (along n s (suc k) a) b) k (omega arith) (eq-eqb (along n s (suc k) a) b e)
+
+pub joined-elim : (n : ℕ) (s : List ℕ) (f a b : ℕ) → joined n s f a b ≡ true → (k : ℕ) × (0 < k) × (k ≤ f) × (along n s k a ≡ b)
+unfolding joined
+joined-elim n s f a b e =
+    let r = any-elim f (λ k. eqb (along n s (suc k) a) b) e in
+    let l : r .0 < f = r .1 in
+    (suc (r .0), omega arith, omega arith, eqb-true (along n s (suc (r .0)) a) b (r .2))
 
 module _ (n : ℕ) (m : List ℕ) where
   abbrev s : List ℕ

@@ -25,11 +25,11 @@ use Rattle.circuit.proofs.LegsLaws.{tableOf-leg, leg-tableOf, column-at}
 use Rattle.circuit.proofs.StateLaws.{stray-row}
 use Rattle.filter.specs.Chain.{compulsory, compulsories, forked, nexts, along, joined, looped, closes, chain}
 use Rattle.filter.specs.Trail.{Compulsory, Splits, Fork, Trail, Different, Loop, Closing, ChainSays}
-use Rattle.filter.proofs.NextLaws.{next-leg, same-next, same-previous, leg-next}
+use Rattle.filter.proofs.NextLaws.{joined-intro, joined-elim, next-leg, same-next, same-previous, leg-next}
 
 -- ---- compulsory legs
 
-module _ (n : ℕ) (t : List ℕ) (le : n ≤ 64) (clean : stray n t ≡ false) where
+module _ (n : ℕ) (t : List ℕ) (le : n ≤ 64) where
   col-leg : (i j : ℕ) → i < n → has (col n t j) i ≡ leg t i j
   unfolding col
   col-leg i j l = has-setOf n (λ i. leg t i j) i l
@@ -50,9 +50,15 @@ module _ (n : ℕ) (t : List ℕ) (le : n ≤ 64) (clean : stray n t ≡ false) 
         only = inr (λ k l q. has-one i k (ap (λ (w : ℕ). has w k) (sym is) ∙ col-leg k j l ∙ q));
       }
 
-  compulsory-found : (i j : ℕ) → Compulsory n t i j → compulsory t (columns n t) i j ≡ true
+  pub compulsory-holds : (i j : ℕ) → leg (compulsories n t) i j ≡ true → Compulsory n t i j
+  unfolding compulsories compulsory
+  compulsory-holds i j e =
+      let f = tableOf-leg n (compulsory t (columns n t)) i j e in
+      ⊎-elim (compulsory-out i j (f .0) (f .1)) (compulsory-in i j (f .0) (f .1)) (or-cases _ _ (f .2))
+
+  compulsory-found : stray n t ≡ false → (i j : ℕ) → Compulsory n t i j → compulsory t (columns n t) i j ≡ true
   unfolding compulsory leg col
-  compulsory-found i j c =
+  compulsory-found clean i j c =
       ⊎-elim
       (λ only. or-l (eqb (row (columns n t) j) (2 ^ i)) (eq-eqb (row t i) (2 ^ j) (pow-only n (row t i) j (stray-row n t le clean i (c .from)) (c .to) (c .stands) only)))
       (λ only.
@@ -62,16 +68,10 @@ module _ (n : ℕ) (t : List ℕ) (le : n ≤ 64) (clean : stray n t ≡ false) 
       ∙ pow-only n (col n t j) i (setOf-lt n (λ i. leg t i j)) (c .from) (col-leg i j (c .from) ∙ c .stands) (λ k l q. only k l (sym (col-leg k j l) ∙ q)))))
       (c .only)
 
-  pub compulsory-test : (i j : ℕ) → Decides (leg (compulsories n t) i j) (Compulsory n t i j)
-  unfolding compulsories compulsory
-  compulsory-test i j =
-      let p = compulsory t (columns n t) in
-      record {
-        holds = λ e.
-            let f = tableOf-leg n p i j e in
-            ⊎-elim (compulsory-out i j (f .0) (f .1)) (compulsory-in i j (f .0) (f .1)) (or-cases (eqb (row t i) (2 ^ j)) (eqb (row (columns n t) j) (2 ^ i)) (f .2));
-        found = λ c. leg-tableOf n p i j le (c .from) (c .to) ∙ compulsory-found i j c;
-      }
+  pub compulsory-test : stray n t ≡ false → (i j : ℕ) → Decides (leg (compulsories n t) i j) (Compulsory n t i j)
+  unfolding compulsories
+  compulsory-test clean i j =
+      record { holds = compulsory-holds i j; found = λ c. leg-tableOf n (compulsory t (columns n t)) i j le (c .from) (c .to) ∙ compulsory-found clean i j c }
 
 -- ---- forks
 
@@ -169,10 +169,7 @@ module _ (n : ℕ) (m : List ℕ) (L : ℕ → ℕ → Type 0) (is : (i j : ℕ)
         ap (λ (x : ℕ). getD s x n) (trail-along T i (omega arith)) ∙ leg-next n m one x y (inside x y d .0) (inside x y d .1) (is x y .found d)
 
     trail-joined : (f k a b : ℕ) → 1 ≤ k → k ≤ f → Trail L k a b → joined n s f a b ≡ true
-    unfolding joined
-    trail-joined f zero a b p l T = absurd (not-suc-le-zero p)
-    trail-joined f (suc k) a b p l T =
-        any-intro f (λ k. eqb (along n s (suc k) a) b) k l (eq-eqb (along n s (suc k) a) b (trail-along T (suc k) (le-refl (suc k)) ∙ T .ends))
+    trail-joined f k a b p l T = joined-intro n s f a b k p l (trail-along T k (le-refl k) ∙ T .ends)
 
     -- the first r stations are different where the start does not come again: if one came again, so would the one before it, back to the start
     different : {k a b : ℕ} (T : Trail L k a b) (r : ℕ) → r ≤ suc k → ((d : ℕ) → suc d < r → T .at (suc d) ≢ a) → Different (T .at) r
@@ -247,7 +244,7 @@ module _ (n : ℕ) (m : List ℕ) (L : ℕ → ℕ → Type 0) (is : (i j : ℕ)
       no-row f = eq-eqb (row m b) 0 (no-member (row m b) (λ j. is-false (leg m b j) (λ e. f j (is b j .holds e))))
 
       pub closing-test : b < n → Decides (closes n m s b a) (Closing n L b a)
-      unfolding closes joined
+      unfolding closes
       closing-test l = record { holds = holds; found = found }
         where
           found : Closing n L b a → closes n m s b a ≡ true
@@ -259,14 +256,15 @@ module _ (n : ℕ) (m : List ℕ) (L : ℕ → ℕ → Type 0) (is : (i j : ℕ)
           holds e =
               let ends = and-l (eqb (col n m a) 0 && eqb (row m b) 0) (joined n s (pred (pred n)) a b) e in
               let first = none-in (and-l (eqb (col n m a) 0) (eqb (row m b) 0) ends) in
-              let f = any-elim (pred (pred n)) (λ k. eqb (along n s (suc k) a) b) (and-r (eqb (col n m a) 0 && eqb (row m b) 0) (joined n s (pred (pred n)) a b) e) in
-              let T = along-trail (suc (f .0)) a b l (eqb-true (along n s (suc (f .0)) a) b (f .2)) in
+              let g = joined-elim n s (pred (pred n)) a b (and-r (eqb (col n m a) 0 && eqb (row m b) 0) (joined n s (pred (pred n)) a b) e) in
+              let k = g .0 in
+              let T = along-trail k a b l (g .3) in
               record {
-                length = suc (f .0);
-                some = omega arith;
-                fewer = omega (arith, f .1);
+                length = k;
+                some = g .1;
+                fewer = omega (arith, g .1, g .2);
                 trail = T;
-                once = different T (suc (suc (f .0))) (le-refl (suc (suc (f .0)))) (λ d h q. first (T .at d) (subst (L (T .at d)) q (T .legs d (le-of-suc-le-suc h))));
+                once = different T (suc k) (le-refl (suc k)) (λ d h q. first (T .at d) (subst (L (T .at d)) q (T .legs d (le-of-suc-le-suc h))));
                 first = first;
                 last = none-out (and-r (eqb (col n m a) 0) (eqb (row m b) 0) ends);
               }
