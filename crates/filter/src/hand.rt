@@ -93,7 +93,7 @@ fn by_hand(w: Work, v: Verdict) -> Called
 }
 
 // A rule called by hand: the checks, and then its verdict on the state's table.
-fn call(work: Work, rule: Rule) -> Called
+pub fn call(work: Work, rule: Rule) -> Called
     ensures { λ r. ⌜ r ≡ handCall work rule ⌝ }
 {
     if work.is_bad() {

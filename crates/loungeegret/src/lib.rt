@@ -5,6 +5,7 @@ use circuit::Answer;
 use circuit::End;
 use circuit::Table;
 use circuit::Work;
+use filter::Rule;
 ghost use denote.Ref.{now};
 ghost use mathlib.Core.Path.{_≡_};
 ghost use mathlib.Core.List.{_++_};
@@ -14,7 +15,7 @@ ghost use Rattle.circuit.specs.Card.{number};
 ghost use Rattle.circuit.specs.Check.{checkCall};
 ghost use Rattle.sheet.specs.Open.{openCall};
 ghost use Rattle.report.specs.Lines.{reportCall, reportBytes};
-ghost use Rattle.filter.specs.Calls.{sweepCall, chainCall, passCall, runCall};
+ghost use Rattle.filter.specs.Calls.{handCall, sweepCall, chainCall, passCall, runCall};
 ghost use Rattle.output.specs.Program.{programText};
 ghost use Rattle.loungeegret.specs.Words.{stateWords, loaded, storedIn};
 ghost use Rattle.loungeegret.specs.Results.{wordsAfter, OpenResult, CallResult, RunResult, CheckResult, ReportResult, PrintResult};
@@ -135,32 +136,32 @@ pub extern "C" fn loungeegret_open(
     answer.number()
 }
 
-#[no_mangle]
-pub extern "C" fn loungeegret_sweep(state: &mut [u64], removed: &mut u32) -> u32
-    ensures { λ r. ⌜ CallResult (sweepCall (loaded (now (state .entry)))) (now (state .entry)) (now (state .exit)) (now (removed .entry)) (now (removed .exit)) r ⌝ }
+// A rule called by hand.
+fn call(state: &mut [u64], rule: Rule, removed: &mut u32) -> u32
+    ensures { λ r. ⌜ CallResult (handCall (loaded (now (state .entry))) rule) (now (state .entry)) (now (state .exit)) (now (removed .entry)) (now (removed .exit)) r ⌝ }
 {
     if state.len() < STATE_WORDS {
         return NO_STATE;
     }
-    let swept = filter::sweep(load(state));
-    *removed = swept.removed;
-    let answer = swept.answer;
-    let work = swept.work;
+    let called = filter::call(load(state), rule);
+    *removed = called.removed;
+    let answer = called.answer;
+    let work = called.work;
     hand_back(state, answer, work)
+}
+
+#[no_mangle]
+pub extern "C" fn loungeegret_sweep(state: &mut [u64], removed: &mut u32) -> u32
+    ensures { λ r. ⌜ CallResult (sweepCall (loaded (now (state .entry)))) (now (state .entry)) (now (state .exit)) (now (removed .entry)) (now (removed .exit)) r ⌝ }
+{
+    call(state, Rule::Sweep, removed)
 }
 
 #[no_mangle]
 pub extern "C" fn loungeegret_chain(state: &mut [u64], removed: &mut u32) -> u32
     ensures { λ r. ⌜ CallResult (chainCall (loaded (now (state .entry)))) (now (state .entry)) (now (state .exit)) (now (removed .entry)) (now (removed .exit)) r ⌝ }
 {
-    if state.len() < STATE_WORDS {
-        return NO_STATE;
-    }
-    let chained = filter::chain(load(state));
-    *removed = chained.removed;
-    let answer = chained.answer;
-    let work = chained.work;
-    hand_back(state, answer, work)
+    call(state, Rule::Chain, removed)
 }
 
 // The seed is a station's number, from 1.
@@ -168,14 +169,7 @@ pub extern "C" fn loungeegret_chain(state: &mut [u64], removed: &mut u32) -> u32
 pub extern "C" fn loungeegret_pass(state: &mut [u64], seed: usize, removed: &mut u32) -> u32
     ensures { λ r. ⌜ CallResult (passCall (loaded (now (state .entry))) seed) (now (state .entry)) (now (state .exit)) (now (removed .entry)) (now (removed .exit)) r ⌝ }
 {
-    if state.len() < STATE_WORDS {
-        return NO_STATE;
-    }
-    let passed = filter::pass(load(state), seed);
-    *removed = passed.removed;
-    let answer = passed.answer;
-    let work = passed.work;
-    hand_back(state, answer, work)
+    call(state, Rule::Pass(seed), removed)
 }
 
 #[no_mangle]
