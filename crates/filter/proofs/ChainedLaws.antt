@@ -9,26 +9,29 @@ use native.Mathlib.Omega.{arith}
 use lib.Bits.{bitAnd}
 use lib.Count.{ones}
 use lib.Dec.{ltb}
-use borrow.Author.Tests.{ltb-true}
+use borrow.Author.Tests.{eq-eqb, lt-ltb, ltb-true}
 use Rattle.bitset.specs.Sets.{has, any}
 use Rattle.bitset.specs.Upto.{row}
-use Rattle.bitset.proofs.BoolLaws.{or-l, or-r, or-none, cond-true, cond-false}
-use Rattle.bitset.proofs.HasLaws.{member-below}
+use Rattle.bitset.proofs.BoolLaws.{not-both, and-intro, or-l, or-r, or-none, cond-true, cond-false}
+use Rattle.bitset.proofs.HasLaws.{has-zero, member-below}
+use Rattle.bitset.proofs.OnesLaws.{ones-pow}
 use Rattle.bitset.proofs.QuantLaws.{below?}
-use Rattle.bitset.proofs.SetLaws.{members-below, has-diff}
+use Rattle.bitset.proofs.SetLaws.{members-below, has-diff, pow-only}
 use Rattle.bitset.proofs.UptoLaws.{getD-upto}
 use Rattle.bitset.proofs.WordLaws.{in-and}
 use Rattle.circuit.specs.Legs.{leg, col, columns, without}
 use Rattle.circuit.specs.State.{stray}
 use Rattle.circuit.specs.Verdict.{saysNone, leaves}
 use Rattle.circuit.specs.inner.Tables.{Square}
-use Rattle.circuit.proofs.LegsLaws.{columns-square}
+use Rattle.circuit.proofs.LegsLaws.{column-leg, columns-square}
+use Rattle.circuit.proofs.StateLaws.{stray-row}
 use Rattle.filter.specs.Chain.{compulsories, forked, nexts, looped, closes, chain}
 use Rattle.filter.specs.declared.chaining.CompulsoryLegs.{CompulsoryLegs}
 use Rattle.filter.specs.declared.chaining.Chains.{Chains}
 use Rattle.filter.specs.declared.sweeping.Singles.{Singles}
 use Rattle.filter.specs.inner.Chains.{compulsoryWords, CompulsoryOf, ChainsOf, ShortLoop}
-use Rattle.filter.specs.inner.Singles.{SinglesOf}
+use Rattle.filter.specs.inner.Singles.{single, SinglesOf}
+use Rattle.filter.specs.Trail.{Compulsory}
 use Rattle.filter.proofs.CompulsoryLaws.{column-none, compulsory-rows, compulsory-columns, forked-is}
 use Rattle.filter.proofs.LoopLaws.{Marks, compulsories-square, closing-table, short-loop}
 
@@ -63,6 +66,26 @@ gathered n t le clean cols is next prev gn gp out into fo fi co ci =
 
     two : List ℕ → Bool
     two u = any n (λ i. ltb 1 (ones (row u i)))
+
+-- ---- without stations that have one leg only
+
+-- a word's only member is told by the set of such words
+lone : (n : ℕ) (words : List ℕ) (which : ℕ) → n ≤ 64 → ((k : ℕ) → k < 64 → has which k ≡ ltb k n && single (row words k)) → which ≡ 0
+    → (k j : ℕ) → k < n → j < n → row words k < 2 ^ n → has (row words k) j ≡ true → ((i : ℕ) → i < n → has (row words k) i ≡ true → i ≡ j) → ⊥
+lone n words which le is none k j lk lj h e only =
+    let one : single (row words k) ≡ true = eq-eqb (ones (row words k)) 1 (ap ones (pow-only n (row words k) j h lj e only) ∙ ones-pow j) in
+    not-both (is k (lt-of-lt-of-le lk le) ∙ and-intro (lt-ltb k n lk) one) (ap (λ (w : ℕ). has w k) none ∙ has-zero k)
+
+pub singles-free : (n : ℕ) (t : List ℕ) → n ≤ 64 → stray n t ≡ false → (next prev : Singles) → SinglesOf n t next → SinglesOf n (columns n t) prev → next .which ≡ 0 → prev .which ≡ 0
+    → (i j : ℕ) → Compulsory n t i j → ⊥
+unfolding leg
+singles-free n t le clean next prev gn gp en ep i j c =
+    ⊎-elim
+    (lone n t (next .which) le (gn .which) en i j (c .from) (c .to) (stray-row n t le clean i (c .from)) (c .stands))
+    (λ only.
+    lone n (columns n t) (prev .which) le (gp .which) ep j i (c .to) (c .from) (columns-square n t le j (c .to)) (column-leg n t le i j (c .from) (c .to) ∙ c .stands)
+    (λ k l e. only k l (sym (column-leg n t le k j l (c .to)) ∙ e)))
+    (c .only)
 
 -- ---- the verdict
 

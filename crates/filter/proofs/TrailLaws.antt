@@ -7,12 +7,12 @@ use Prim.Native.Nat.{ℕ, zero, suc, pred, _^_, _≤_, _<_}
 use native.Mathlib.Nat.{le-refl, le-of-suc-le-suc, eq-or-lt-of-le, not-suc-le-zero}
 use native.Mathlib.Omega.{arith}
 use lib.Dec.{eqb, ltb}
-use lib.ListN.{getD}
+use lib.ListN.{length, getD}
 use borrow.Author.Tests.{eqb-true, eqb-false, eq-eqb, ltb-true, not-true}
 use Rattle.bitset.specs.Sets.{has, any, first, size}
 use Rattle.bitset.specs.Tests.{Decides}
 use Rattle.bitset.specs.Upto.{row}
-use Rattle.bitset.proofs.BoolLaws.{not-both, cases, clash, is-false, and-intro, and-l, and-r, or-l, or-r, or-cases, or-false-l, or-false-r, cond-elim}
+use Rattle.bitset.proofs.BoolLaws.{not-both, cases, clash, is-false, and-intro, and-l, and-r, or-l, or-r, or-cases, or-false-l, or-false-r, or-none, cond-elim, cond-false}
 use Rattle.bitset.proofs.FirstLaws.{first-at, before-first}
 use Rattle.bitset.proofs.HasLaws.{has-zero}
 use Rattle.bitset.proofs.OnesLaws.{count-le, size-one}
@@ -22,7 +22,7 @@ use Rattle.circuit.specs.Legs.{leg, col, columns, without}
 use Rattle.circuit.specs.State.{stray}
 use Rattle.circuit.specs.Verdict.{saysNone, leaves}
 use Rattle.circuit.proofs.LegsLaws.{tableOf-leg, leg-tableOf, column-at}
-use Rattle.circuit.proofs.StateLaws.{stray-row}
+use Rattle.circuit.proofs.StateLaws.{stray-row, without-none}
 use Rattle.filter.specs.Chain.{compulsory, compulsories, forked, nexts, along, joined, looped, closes, chain}
 use Rattle.filter.specs.Trail.{Compulsory, Splits, Fork, Trail, Different, Loop, Closing, ChainSays}
 use Rattle.filter.proofs.NextLaws.{joined-intro, joined-elim, next-leg, same-next, same-previous, leg-next}
@@ -289,6 +289,19 @@ module _ (n : ℕ) (t : List ℕ) (le : n ≤ 64) (clean : stray n t ≡ false) 
 
   pub closes-test : forked n m ≡ false → (b a : ℕ) → b < n → Decides (goes b a) (Closing n (Compulsory n t) b a)
   closes-test = closing-test n m (Compulsory n t) (compulsory-test n t le clean) inside
+
+  -- without compulsory legs nothing goes
+  pub chain-idle : length t ≡ 64 → ((i j : ℕ) → Compulsory n t i j → ⊥) → chain n t ≡ leaves t
+  unfolding chain
+  chain-idle len free =
+      cond-false (saysNone t) (leaves (without n t goes)) (or-none one none)
+      ∙ ap leaves (without-none n t goes le clean len (λ b a lb la. is-false (goes b a) (λ e. let c = closes-test one b a lb .holds e in free _ _ (c .trail .legs 0 (c .some)))))
+    where
+      one : forked n m ≡ false
+      one = is-false (forked n m) (λ e. ⊎-elim (λ f. free _ _ (f .leads)) (λ f. free _ _ (f .leads)) (forked-test .holds e))
+
+      none : looped n (nexts n m) ≡ false
+      none = is-false (looped n (nexts n m)) (λ e. let l = looped-test one .holds e in free _ _ (l .trail .legs 0 (l .some)))
 
   pub chain-says : ChainSays n t (chain n t)
   unfolding chain without

@@ -123,13 +123,19 @@ fn strike_closing(rows: &mut [u64; 64], n: usize, closing: &[u64; 64]) -> bool
     struck
 }
 
-// The chain step on the rows; the columns are stale where a leg went.
+// The chain step on the rows; the columns are stale where a leg went. Where no station has one leg only, no leg is compulsory.
 pub(crate) fn chain_rows(rows: &mut [u64; 64], cols: &[u64; 64], n: usize) -> Taken
     requires { ⌜ (2 ≤ n) × (n ≤ 64) × Columned n (now rows) (now cols) ⌝ }
     ensures { λ r. ⌜ RowsTaken n (chain n (now (rows .entry))) r (now (rows .exit)) (now (cols .entry)) ⌝ }
 {
     let next = single_words(rows, n);
     let prev = single_words(cols, n);
+    if (next.which == 0) & (prev.which == 0) {
+        return Taken {
+            none: false,
+            stale: false,
+        };
+    }
     let out = compulsory_legs(rows, n, prev.which);
     let into = compulsory_legs(cols, n, next.which);
     if out.forked | into.forked {
