@@ -5,6 +5,7 @@ use mathlib.Core.Bool.{Bool, true, false}
 use mathlib.Core.List.{List}
 use Prim.Native.Nat.{ℕ, _^_, _<_}
 use native.Mathlib.Omega.{arith}
+use lib.Dec.{eqb}
 use lib.ListN.{length}
 use mir.Syntax.{w64}
 use mir.Val.{Fits}
@@ -77,6 +78,8 @@ returns : tie.Need-returns
 returns c =
     let prev = c .before .before .before in
     let next = prev .before in
+    let x = next .single-words .result .which in
+    let y = prev .single-words2 .result .which in
     let s = start prev in
     let n = s .args .n in
     let t = s .args .rows .now in
@@ -84,7 +87,7 @@ returns c =
     untouched s false
     (chain-idle n t (s .pre .1) (C .clean) (C .len)
     (singles-free n t (s .pre .1) (C .clean) (next .single-words .result) (prev .single-words2 .result) (next .single-words .ensures)
-    (subst (λ (cols : List ℕ). SinglesOf n cols (prev .single-words2 .result)) (C .columns) (prev .single-words2 .ensures)) (eqb-true _ 0 (and-l _ _ (c .if1 .taken))) (eqb-true _ 0 (and-r _ _ (c .if1 .taken)))))
+    (subst (λ (cols : List ℕ). SinglesOf n cols (prev .single-words2 .result)) (C .columns) (prev .single-words2 .ensures)) (eqb-true x 0 (and-l (eqb x 0) (eqb y 0) (c .if1 .taken))) (eqb-true y 0 (and-r (eqb x 0) (eqb y 0) (c .if1 .taken)))))
 
 compulsory-legs-requires : tie.Need-compulsory-legs-requires
 compulsory-legs-requires c κs = search needs
