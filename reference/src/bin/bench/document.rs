@@ -127,24 +127,16 @@ fn run_cell(inputs: &[Input]) -> String {
 
 /// What the chain steps are of a whole run.
 fn print_shares(shares: &[Share]) {
-    let heads = [
-        "chain steps of a run",
-        "called by hand",
-        "whole run",
-        "share",
-        "share without checks",
-    ];
+    let heads = ["chain steps of a run", "they take", "whole run", "share"];
     println!("\n## Chain steps in a whole run, 64 stations\n");
-    println!("The chain steps of the run are called by hand, each on the state that the run has before it, and their times added up. A call by hand also checks the state, and a step of a run does not. The last column leaves that out: from each time it takes that of the same call on the same state with the end none.\n");
+    println!("What a chain step takes is the time of a run of one step from the state before it, less that of a run of no step from there.\n");
     print_head("tables", &heads.map(String::from));
     for share in shares {
-        let percent = |part: f64| format!("{:.2} %", 100.0 * part);
         let cells = [
             format!("{:.1}", share.steps),
-            unit(share.by_hand),
+            unit(share.chain),
             unit(share.run),
-            percent(share.with_checks()),
-            percent(share.without_checks()),
+            format!("{:.2} %", 100.0 * share.of_the_run()),
         ];
         print_row(share.shape, &cells);
     }

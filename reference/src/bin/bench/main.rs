@@ -15,12 +15,6 @@ const LIMIT: usize = 64;
 fn main() {
     let shapes = shapes::ALL.map(shapes::Shape::inputs);
     let results = times::Timed::ALL.map(|call| times::Results::of(call, &shapes));
-    // Whole runs are timed last.
-    let runs = &results[results.len() - 1].rows;
-    let shares: Vec<_> = shapes
-        .iter()
-        .zip(runs)
-        .map(|(shape, row)| share::Share::of(shape, row))
-        .collect();
+    let shares: Vec<_> = shapes.iter().map(share::Share::of).collect();
     document::print(&shapes, &results, &shares);
 }

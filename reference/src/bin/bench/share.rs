@@ -1,12 +1,15 @@
 //! What the chain steps of a whole run cost, in the proved library.
 
+use std::hint::black_box;
+
+use reference::library::raw;
 use reference::state::last_place;
-use reference::words::to_words;
+use reference::words::{to_words, Words};
 use reference::{fast, End, WorkState};
 
 use crate::shapes::{Input, Inputs};
-use crate::sides::{Proved, Side};
-use crate::times::{median, Row, CALLS};
+use crate::sides::Proved;
+use crate::times::{median, CALLS};
 use crate::SIZES;
 
 /// Means over the tables of one shape with the most stations, times in
@@ -14,24 +17,19 @@ use crate::SIZES;
 pub struct Share {
     pub shape: &'static str,
     pub steps: f64,
-    /// All chain steps of a run, called by hand.
-    pub by_hand: f64,
-    /// The same calls on states with the end none, which check the state alone.
-    pub checks: f64,
+    /// All chain steps of a run.
+    pub chain: f64,
     pub run: f64,
 }
 
 impl Share {
-    /// The row has the times of whole runs of this shape.
-    pub fn of(shape: &Inputs, runs: &Row) -> Share {
-        let most = SIZES.len() - 1;
-        let inputs = &shape.by_size[most];
+    pub fn of(shape: &Inputs) -> Share {
+        let inputs = &shape.by_size[SIZES.len() - 1];
         let mut share = Share {
             shape: shape.name,
             steps: 0.0,
-            by_hand: 0.0,
-            checks: 0.0,
-            run: runs.by_size[most].proved,
+            chain: 0.0,
+            run: 0.0,
         };
         for input in inputs {
             share.add(input, 1.0 / inputs.len() as f64);
@@ -40,23 +38,15 @@ impl Share {
     }
 
     fn add(&mut self, input: &Input, weight: f64) {
+        self.run += time_of_run(&input.state, u32::MAX, 4) * weight;
         for state in states_at_chain_steps(input.state) {
-            let ended = WorkState {
-                end: End::None,
-                ..state
-            };
             self.steps += weight;
-            self.by_hand += time_of_chain(&state) * weight;
-            self.checks += time_of_chain(&ended) * weight;
+            self.chain += time_of_step(&state) * weight;
         }
     }
 
-    pub fn with_checks(&self) -> f64 {
-        self.by_hand / self.run
-    }
-
-    pub fn without_checks(&self) -> f64 {
-        (self.by_hand - self.checks) / self.run
+    pub fn of_the_run(&self) -> f64 {
+        self.chain / self.run
     }
 }
 
@@ -72,6 +62,18 @@ fn states_at_chain_steps(opened: WorkState) -> Vec<WorkState> {
     states
 }
 
-fn time_of_chain(state: &WorkState) -> f64 {
-    median::<Proved>(&to_words(state), CALLS, |_, state| Proved::chain(state))
+/// A run of one step less a run of none: both load, check and store the state
+/// and gather its columns.
+fn time_of_step(state: &WorkState) -> f64 {
+    time_of_run(state, 1, CALLS) - time_of_run(state, 0, CALLS)
+}
+
+fn time_of_run(state: &WorkState, budget: u32, calls: usize) -> f64 {
+    median::<Proved>(&to_words(state), calls, |_, state| run(state, budget))
+}
+
+fn run(state: &mut Words, budget: u32) {
+    let (mut steps, mut removed) = (0, 0);
+    black_box(raw::run(state, budget, &mut steps, &mut removed));
+    black_box((steps, removed));
 }
