@@ -24,6 +24,7 @@ use answer::print_work;
 use circuit::End;
 use circuit::Table;
 use circuit::Work;
+use filter::Called;
 use libc::STDIN_FILENO;
 use line::print;
 use read::read_rows;
@@ -111,28 +112,13 @@ fn set_work(part: &[u8], work: Work) -> Step
     }
 }
 
-fn sweep(work: Work) -> Step
-    ensures { λ r. ⌜ r .taken ≡ 1 ⌝ }
+// A rule called by hand by a command of so many bytes, and its answer.
+fn by_hand(name: &[u8], called: Called, taken: usize) -> Step
+    ensures { λ r. ⌜ r .taken ≡ taken ⌝ }
 {
-    let swept = filter::sweep(work);
-    print_called(b"sweep ", swept);
-    let next = swept.work;
-    Step {
-        taken: 1,
-        work: next,
-    }
-}
-
-fn chain(work: Work) -> Step
-    ensures { λ r. ⌜ r .taken ≡ 1 ⌝ }
-{
-    let chained = filter::chain(work);
-    print_called(b"chain ", chained);
-    let next = chained.work;
-    Step {
-        taken: 1,
-        work: next,
-    }
+    print_called(name, called);
+    let work = called.work;
+    Step { taken, work }
 }
 
 fn pass(part: &[u8], work: Work) -> Step
@@ -141,13 +127,8 @@ fn pass(part: &[u8], work: Work) -> Step
     if part.len() < 9 {
         return stop(work);
     }
-    let passed = filter::pass(work, read_u64(part, 1) as usize);
-    print_called(b"pass ", passed);
-    let next = passed.work;
-    Step {
-        taken: 9,
-        work: next,
-    }
+    let seed = read_u64(part, 1) as usize;
+    by_hand(b"pass ", filter::pass(work, seed), 9)
 }
 
 fn run(part: &[u8], work: Work) -> Step
@@ -209,8 +190,8 @@ fn command(part: &[u8], work: Work) -> Step
     match opcode {
         b'O' => open(part, work),
         b'W' => set_work(part, work),
-        b'S' => sweep(work),
-        b'C' => chain(work),
+        b'S' => by_hand(b"sweep ", filter::sweep(work), 1),
+        b'C' => by_hand(b"chain ", filter::chain(work), 1),
         b'P' => pass(part, work),
         b'R' => run(part, work),
         b'L' => check_list(part, work),

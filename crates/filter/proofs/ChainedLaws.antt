@@ -28,7 +28,7 @@ use Rattle.circuit.proofs.StateLaws.{stray-row}
 use Rattle.filter.specs.Chain.{compulsories, forked, nexts, looped, closes, chain}
 use Rattle.filter.specs.declared.chaining.CompulsoryLegs.{CompulsoryLegs}
 use Rattle.filter.specs.declared.chaining.Chains.{Chains}
-use Rattle.filter.specs.declared.sweeping.Singles.{Singles}
+use Rattle.filter.specs.declared.singles.Singles.{Singles}
 use Rattle.filter.specs.inner.Chains.{compulsoryWords, CompulsoryOf, ChainsOf, ShortLoop}
 use Rattle.filter.specs.inner.Singles.{single, SinglesOf}
 use Rattle.filter.specs.Trail.{Compulsory}

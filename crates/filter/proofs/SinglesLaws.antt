@@ -18,7 +18,7 @@ use Rattle.bitset.proofs.QuantLaws.{below?, any-intro, any-elim}
 use Rattle.bitset.proofs.HasLaws.{has-zero, has-and, has-or}
 use Rattle.bitset.proofs.SetLaws.{has-self, word-has, has-diff}
 use Rattle.bitset.proofs.OnesLaws.{ones-pow, ones-zero, pow-within, within-eq}
-use Rattle.filter.specs.declared.sweeping.Singles.{Singles}
+use Rattle.filter.specs.declared.singles.Singles.{Singles}
 use Rattle.filter.specs.inner.Singles.{single, only, SinglesOf, keeps}
 
 -- ---- a turn of the loop

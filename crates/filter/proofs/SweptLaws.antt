@@ -20,7 +20,7 @@ use Rattle.circuit.specs.State.{stray}
 use Rattle.circuit.specs.Verdict.{saysNone, leaves}
 use Rattle.circuit.proofs.LegsLaws.{column-at, columns-square}
 use Rattle.circuit.proofs.StateLaws.{stray-row, stray-beyond}
-use Rattle.filter.specs.declared.sweeping.Singles.{Singles}
+use Rattle.filter.specs.declared.singles.Singles.{Singles}
 use Rattle.filter.specs.inner.Singles.{single, only, SinglesOf, keeps}
 use Rattle.filter.specs.Sweep.{stuck, nextTaken, prevTaken, swept, sweep}
 use Rattle.filter.proofs.SinglesLaws.{single-pow, other-pair, other-once}

@@ -1,6 +1,6 @@
 // The chain step on words: the compulsory legs out of each station and into each station, and walks against them from the ends of the chains.
 use crate::rule::Taken;
-use crate::sweeping::single_words;
+use crate::singles::single_words;
 ghost use denote.Ref.{now};
 ghost use mathlib.Core.Bool.{false};
 ghost use mathlib.Core.Path.{_≡_};

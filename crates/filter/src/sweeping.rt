@@ -1,5 +1,7 @@
-// The sweep on words: which stations have one leg only, and what that leaves of each row.
+// The sweep on words: what the stations with one leg only leave of each row.
 use crate::rule::Taken;
+use crate::singles::Singles;
+use crate::singles::single_words;
 ghost use denote.Ref.{now};
 ghost use mathlib.Core.Path.{_≡_};
 ghost use mathlib.Core.Bool.{false, cond, _&&_};
@@ -11,48 +13,7 @@ ghost use Rattle.circuit.specs.State.{stray};
 ghost use Rattle.circuit.specs.inner.Tables.{Columned};
 ghost use Rattle.filter.specs.Sweep.{swept, sweep};
 ghost use Rattle.filter.specs.inner.Steps.{RowsTaken};
-ghost use Rattle.filter.specs.inner.Singles.{single, SinglesOf, keeps};
-
-// Of the first words of a list: some word is empty; which words have one member only; the members of these; the members of two of these.
-pub(crate) struct Singles {
-    pub(crate) empty: bool,
-    pub(crate) which: u64,
-    pub(crate) once: u64,
-    pub(crate) twice: u64,
-}
-
-// The word, where it has one member only.
-fn only_member(w: u64) -> u64
-    ensures { λ r. ⌜ r ≡ cond (single w) w 0 ⌝ }
-{
-    if u64::count_ones(w) == 1 { w } else { 0 }
-}
-
-pub(crate) fn single_words(words: &[u64; 64], n: usize) -> Singles
-    requires { ⌜ n ≤ 64 ⌝ }
-    ensures { λ r. ⌜ SinglesOf n (now (words .entry)) r ⌝ }
-{
-    let mut empty = false;
-    let mut which = 0u64;
-    let mut once = 0u64;
-    let mut twice = 0u64;
-    let mut k = 0usize;
-    while k < n {
-        let word = words[k];
-        let w = only_member(word);
-        empty = empty | (word == 0);
-        which = bitset::insert_if(which, k, w);
-        twice |= once & w;
-        once |= w;
-        k += 1;
-    }
-    Singles {
-        empty,
-        which,
-        once,
-        twice,
-    }
-}
+ghost use Rattle.filter.specs.inner.Singles.{SinglesOf, keeps};
 
 // The stations that another station has as its only next, for the station i.
 fn taken(next: Singles, i: usize) -> u64

@@ -1,4 +1,4 @@
--- What the sweep gathers of the rows, and alike of the columns: which stations have one leg only.
+-- What is gathered of the rows, and alike of the columns: which stations have one leg only; and what the sweep makes of it.
 use mathlib.Core.Path.{_≡_}
 use mathlib.Core.Bool.{Bool, false, true, not, cond, _&&_}
 use mathlib.Core.List.{List}
@@ -7,7 +7,7 @@ use lib.Count.{ones}
 use lib.Dec.{eqb, ltb}
 use lib.ListN.{getD}
 use Rattle.bitset.specs.Sets.{has, any}
-use Rattle.filter.specs.declared.sweeping.Singles.{Singles}
+use Rattle.filter.specs.declared.singles.Singles.{Singles}
 
 -- the word has one member only
 abbrev pub single : ℕ → Bool

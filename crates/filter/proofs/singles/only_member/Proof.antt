@@ -3,8 +3,8 @@ use mathlib.Core.Path.{sym}
 use lib.Count.{ones}
 use borrow.Author.Tests.{eq-eqb, ne-eqb}
 use Rattle.bitset.proofs.BoolLaws.{cond-true, cond-false}
-use Rattle.filter.proofs.sweeping.only_member.Statement.{statement}
-use Rattle.filter.proofs.sweeping.only_member.Tie as tie
+use Rattle.filter.proofs.singles.only_member.Statement.{statement}
+use Rattle.filter.proofs.singles.only_member.Tie as tie
 
 returns : tie.Need-returns
 returns c = sym (cond-true (c .before .args .w) 0 (eq-eqb (ones (c .before .args .w)) 1 (c .if1 .taken)))

@@ -6,8 +6,8 @@ use native.Mathlib.Omega.{arith}
 use lib.Bits.{bitAnd, and-le-l, or-lt}
 use Rattle.filter.specs.inner.Singles.{SinglesOf}
 use Rattle.filter.proofs.SinglesLaws.{singles-start, singles-turn}
-use Rattle.filter.proofs.sweeping.single_words.Statement.{statement}
-use Rattle.filter.proofs.sweeping.single_words.Tie as tie
+use Rattle.filter.proofs.singles.single_words.Statement.{statement}
+use Rattle.filter.proofs.singles.single_words.Tie as tie
 
 abbrev Inv-loop : tie.InvT-loop
 Inv-loop words n empty₀ which₀ once₀ twice₀ k₀ empty which once twice k =
