@@ -4,7 +4,7 @@ use mathlib.Core.Bool.{true}
 use Rattle.demands.specs.Definitions.{definitions}
 use Rattle.demands.specs.Examples.{listed, begun, removes, budget, holds, every, nineLegs, ringOfFour, ringOfFive, butterfly, fullOfFour, chainOfFour, examples}
 
--- the items with ◆, and the one of W-201
+-- the items with ◆, and those of W-201
 pub examples-hold : every examples ≡ true
 unfolding definitions listed begun removes budget holds every nineLegs ringOfFour ringOfFive butterfly fullOfFour chainOfFour examples
 examples-hold = refl

@@ -112,7 +112,7 @@ unfoldable pub chainOfFour : Start
 chainOfFour =
     table 6 (leg 1 2 ∷ leg 2 3 ∷ leg 3 4 ∷ leg 4 1 ∷ leg 4 5 ∷ leg 4 6 ∷ leg 5 6 ∷ leg 6 5 ∷ leg 5 1 ∷ leg 6 1 ∷ [])
 
--- the items with ◆, and last the one of W-201
+-- the items with ◆, and last those of W-201
 unfoldable pub examples : List Example
 examples =
     sweeps (sheet nineLegs 64) (leg 1 2 ∷ leg 1 3 ∷ leg 2 1 ∷ [])
@@ -129,5 +129,6 @@ examples =
     ∷ lists fullOfFour (2 ∷ 3 ∷ 4 ∷ 1 ∷ []) true
     ∷ lists fullOfFour (2 ∷ 1 ∷ 4 ∷ 3 ∷ []) false
     ∷ refuses (3 ∷ 12 ∷ []) 3 1
+    ∷ runs (sheet nineLegs 64) 16 "stable"
     ∷ chains chainOfFour (leg 4 1 ∷ []) false
     ∷ []
