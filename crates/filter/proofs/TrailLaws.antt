@@ -3,7 +3,7 @@ use mathlib.Core.Path.{_≡_, refl, sym, ap, _∙_, subst}
 use mathlib.Core.Logic.{_≢_, _⊎_, inl, inr, ⊎-elim}
 use mathlib.Core.Bool.{Bool, true, false, not, _&&_, _||_}
 use mathlib.Core.List.{List}
-use Prim.Native.Nat.{ℕ, zero, suc, pred, _^_, _≤_, _<_}
+use Prim.Native.Nat.{ℕ, zero, suc, _^_, _≤_, _<_}
 use native.Mathlib.Nat.{le-refl, le-of-suc-le-suc, eq-or-lt-of-le, not-suc-le-zero}
 use native.Mathlib.Omega.{arith}
 use lib.Dec.{eqb, ltb}
@@ -191,15 +191,15 @@ module _ (n : ℕ) (m : List ℕ) (L : ℕ → ℕ → Type 0) (is : (i j : ℕ)
     loop-found l =
         let T = l .trail in
         let d = T .legs 0 (l .some) in
-        any-intro n (λ a. joined n s (pred n) a a) (l .start) (subst (λ (a : ℕ). a < n) (T .starts) (inside (T .at 0) (T .at 1) d .0))
-        (trail-joined (pred n) (l .length) (l .start) (l .start) (l .some) (omega (arith, l .fewer)) T)
+        any-intro n _ (l .start) (subst (λ (a : ℕ). a < n) (T .starts) (inside (T .at 0) (T .at 1) d .0))
+        (trail-joined _ (l .length) (l .start) (l .start) (l .some) (omega (arith, l .fewer)) T)
 
-    -- the shortest walk from a station back to it is a loop
-    loop-at : (a : ℕ) → a < n → joined n s (pred n) a a ≡ true → Loop n L
+    -- the shortest walk of at most f legs, f below n, from a station back to it is a loop
+    loop-at : (f a : ℕ) → f < n → a < n → joined n s f a a ≡ true → Loop n L
     unfolding joined along-trail
-    loop-at a l e =
-        let f = any-elim (pred n) back e in
-        let g = first-at (pred n) back (f .0) (f .1) (f .2) in
+    loop-at f a few l e =
+        let k = any-elim f back e in
+        let g = first-at f back (k .0) (k .1) (k .2) in
         let T = along-trail (suc least) a a l (eqb-true (along n s (suc least) a) a (g .1)) in
         record {
           start = a;
@@ -207,18 +207,18 @@ module _ (n : ℕ) (m : List ℕ) (L : ℕ → ℕ → Type 0) (is : (i j : ℕ)
           some = omega arith;
           fewer = omega (arith, g .0);
           trail = T;
-          once = different T (suc least) (omega arith) (λ d h. eqb-false (along n s (suc d) a) a (before-first (pred n) back d (le-of-suc-le-suc h)));
+          once = different T (suc least) (omega arith) (λ d h. eqb-false (along n s (suc d) a) a (before-first f back d (le-of-suc-le-suc h)));
         }
       where
         back : ℕ → Bool
         back k = eqb (along n s (suc k) a) a
 
         least : ℕ
-        least = first (pred n) back
+        least = first f back
 
     pub loop-test : Decides (looped n s) (Loop n L)
     unfolding looped
-    loop-test = record { holds = λ e. let f = any-elim n (λ a. joined n s (pred n) a a) e in loop-at (f .0) (f .1) (f .2); found = loop-found }
+    loop-test = record { holds = λ e. let a = any-elim n _ e in loop-at _ (a .0) (omega (arith, a .1)) (a .1) (a .2); found = loop-found }
 
     -- ---- chains
 
@@ -250,13 +250,13 @@ module _ (n : ℕ) (m : List ℕ) (L : ℕ → ℕ → Type 0) (is : (i j : ℕ)
           found : Closing n L b a → closes n m s b a ≡ true
           found c =
               and-intro (and-intro (no-column (c .first)) (no-row (c .last)))
-              (trail-joined (pred (pred n)) (c .length) a b (c .some) (omega (arith, c .fewer)) (c .trail))
+              (trail-joined _ (c .length) a b (c .some) (omega (arith, c .fewer)) (c .trail))
 
           holds : closes n m s b a ≡ true → Closing n L b a
           holds e =
-              let ends = and-l (eqb (col n m a) 0 && eqb (row m b) 0) (joined n s (pred (pred n)) a b) e in
+              let ends = and-l (eqb (col n m a) 0 && eqb (row m b) 0) _ e in
               let first = none-in (and-l (eqb (col n m a) 0) (eqb (row m b) 0) ends) in
-              let g = joined-elim n s (pred (pred n)) a b (and-r (eqb (col n m a) 0 && eqb (row m b) 0) (joined n s (pred (pred n)) a b) e) in
+              let g = joined-elim n s _ a b (and-r (eqb (col n m a) 0 && eqb (row m b) 0) _ e) in
               let k = g .0 in
               let T = along-trail k a b l (g .3) in
               record {
