@@ -41,7 +41,8 @@ fn take_levels(
     false
 }
 
-// The pass with a seed, on the rows and the columns alike. Answers whether the verdict is none.
+// The pass with a seed, on the rows and the columns alike. A station in no level is on an island: the verdict is none before any level is looked at.
+// Answers whether the verdict is none.
 pub(crate) fn pass_on(
     rows: &mut [u64; 64],
     cols: &mut [u64; 64],
@@ -53,7 +54,10 @@ pub(crate) fn pass_on(
     ensures { λ r. ⌜ TableTaken n (pass n (now (rows .entry)) limit seed) r (now (rows .exit)) (now (cols .exit)) ⌝ }
 {
     let nbr = separator::neighbours(rows, cols, n);
-    let found = separator::levels_from(&nbr, seed);
+    let found = separator::levels_from(&nbr, n, seed);
+    if found.unreached != 0 {
+        return true;
+    }
     let level = found.level;
     take_levels(rows, cols, n, limit, &level, found.count)
 }

@@ -46,6 +46,7 @@ module _ (n : ℕ) (R : ℕ → ℕ → Bool) (room : ℕ) where
   pub record Growing (start seen last : ℕ) : Type 0 where
     pub below : seen < 2 ^ n
     pub small : last < 2 ^ n
+    pub first : has seen start ≡ true
     pub part : (k : ℕ) → has last k ≡ true → has seen k ≡ true
     pub settled : (i j : ℕ) → i < n → j < n → R i j ≡ true → has room j ≡ true → has seen i ≡ true → has last i ≡ false → has seen j ≡ true
     pub within : Within n seen (grow n n R room (2 ^ start))
@@ -55,17 +56,18 @@ module _ (n : ℕ) (R : ℕ → ℕ → Bool) (room : ℕ) where
       record {
         below = pow-lt h;
         small = pow-lt h;
+        first = has-self start;
         part = λ k e. e;
         settled = λ i j li lj r d e z. absurd (not-both e z);
         within = grow-keeps n R room n (2 ^ start);
       }
 
   module _ {start seen last : ℕ} (g : Growing start seen last) (l : start < n) where
-    pub growing-end : last ≡ 0 → has seen start ≡ true → seen ≡ grow n n R room (2 ^ start)
-    growing-end z e =
+    pub growing-end : last ≡ 0 → seen ≡ grow n n R room (2 ^ start)
+    growing-end z =
         ext n seen (grow n n R room (2 ^ start)) (g .below) (grow-lt n (2 ^ start) (pow-lt l))
         (λ k d. iff (has seen k) (has (grow n n R room (2 ^ start)) k) (g .within k d)
-        (grow-within n (2 ^ start) seen closed (pow-within n seen start e) k d))
+        (grow-within n (2 ^ start) seen closed (pow-within n seen start (g .first)) k d))
       where
         closed : Closed n R room seen
         closed i j li lj r d h = g .settled i j li lj r d h (ap (λ (w : ℕ). has w i) z ∙ has-zero i)
@@ -79,6 +81,7 @@ module _ (n : ℕ) (R : ℕ → ℕ → Bool) (room : ℕ) where
         record {
           below = or-lt n seen next (g .below) small;
           small = small;
+          first = has-or seen next start ∙ or-l (has next start) (g .first);
           part = λ k e. has-or seen next k ∙ or-r (has seen k) e;
           settled = λ i j li lj r d e z. has-or seen next j ∙ ⊎-elim (joins i j li lj r d) (λ q. absurd (not-both q z)) (members i e);
           within = λ k d e. ⊎-elim (g .within k d) (grows k d) (members k e);

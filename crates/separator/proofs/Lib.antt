@@ -11,6 +11,8 @@ pub mod LevelLaws
 pub mod NeighbourLaws
 pub mod GrowLaws
 pub mod ArrayLaws
+pub mod ReachLaws
+pub mod PartingLaws
 pub mod LevelsLaws
 pub mod InnerLaws
 pub mod PartLaws

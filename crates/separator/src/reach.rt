@@ -1,6 +1,7 @@
 // Neighbours, levels from a seed, and components outside a set. A set of stations is a word, bit k for station k.
-// The words of the neighbours are all that levels and components need of a table. So n and the table t are no parameters: a promise speaks of any n and t
-// with `Linked n t nbr`, words that are the neighbours of the n stations of t. Of other words nothing is said.
+// The words of the neighbours are all that levels and components need of a table. So the table t is no parameter, and n is one only to say which stations
+// are not reached: a promise speaks of any n and t with `Linked n t nbr`, words that are the neighbours of the n stations of t. Of other words nothing is
+// said.
 ghost use denote.Ref.{now};
 ghost use mathlib.Core.Bool.{true, not};
 ghost use mathlib.Core.List.{List};
@@ -9,14 +10,15 @@ ghost use Prim.Native.Nat.{ℕ, _^_, _<_, _≤_};
 ghost use Rattle.bitset.specs.Sets.{has, setOf};
 ghost use Rattle.circuit.specs.Legs.{columns, neighbours, tableOf};
 ghost use Rattle.circuit.specs.inner.Tables.{Square};
-ghost use Rattle.separator.specs.Levels.{neighbourhood, levels};
+ghost use Rattle.separator.specs.Levels.{neighbourhood};
 ghost use Rattle.separator.specs.Components.{grow, components};
-ghost use Rattle.separator.specs.inner.Reach.{Linked, Listed};
+ghost use Rattle.separator.specs.inner.Reach.{Linked, Listed, LevelsOf};
 
-// Level k stands at `level[k]`, for k below `count`; the other words are 0.
+// Level k stands at `level[k]`, for k below `count`; the other words are 0. The stations in no level are in `unreached`.
 pub struct Levels {
     pub level: [u64; 64],
     pub count: usize,
+    pub unreached: u64,
 }
 
 // The components stand at the first `count` places, by rising lowest station; the other words are 0.
@@ -47,9 +49,9 @@ fn neighbourhood(nbr: &[u64; 64], set: u64) -> u64
 }
 
 // The levels from a seed: each is the neighbours of the last one that no level has yet.
-pub fn levels_from(nbr: &[u64; 64], seed: usize) -> Levels
-    requires { ⌜ seed < 64 ⌝ }
-    ensures { λ r. ⌜ ((n : ℕ) (t : List ℕ) → Linked n t (now (nbr .entry)) → seed < n → Listed (levels n t seed) (r .level) (r .count)) ⌝ }
+pub fn levels_from(nbr: &[u64; 64], n: usize, seed: usize) -> Levels
+    requires { ⌜ (n ≤ 64) × (seed < n) ⌝ }
+    ensures { λ r. ⌜ ((t : List ℕ) → Linked n t (now (nbr .entry)) → LevelsOf n t seed r) ⌝ }
 {
     let mut level = [0u64; 64];
     let mut count = 0usize;
@@ -61,7 +63,12 @@ pub fn levels_from(nbr: &[u64; 64], seed: usize) -> Levels
         last = neighbourhood(nbr, last) & !seen;
         seen |= last;
     }
-    Levels { level, count }
+    let unreached = bitset::full(n) & !seen;
+    Levels {
+        level,
+        count,
+        unreached,
+    }
 }
 
 // The component of `start` inside `room`: only the stations that came in last can bring in more.

@@ -5,6 +5,8 @@ use Prim.Native.Nat.{ℕ, _≤_}
 use lib.ListN.{length}
 use Rattle.bitset.specs.Upto.{upto, row}
 use Rattle.circuit.specs.Legs.{neighbours, tableOf}
+use Rattle.separator.specs.declared.reach.Levels.{Levels}
+use Rattle.separator.specs.Levels.{levels, unreached}
 
 -- the words of nbr are the neighbours of each station
 pub record Linked (n : ℕ) (t nbr : List ℕ) : Type 0 where
@@ -15,3 +17,8 @@ pub record Linked (n : ℕ) (t nbr : List ℕ) : Type 0 where
 pub record Listed (ls words : List ℕ) (count : ℕ) : Type 0 where
   pub many : count ≡ length ls
   pub array : words ≡ upto 64 (row ls)
+
+-- the levels of a seed are found, and the stations in none of them
+pub record LevelsOf (n : ℕ) (t : List ℕ) (seed : ℕ) (r : Levels) : Type 0 where
+  pub listed : Listed (levels n t seed) (r .level) (r .count)
+  pub unreached : r .unreached ≡ unreached n (levels n t seed)

@@ -69,7 +69,7 @@ loop-again c =
 returns : tie.Need-returns Inv-loop μ-loop
 returns c =
     let l = c .before .loop in
-    (l .inv .1, λ n t d h. growing-end n (neighbours t) (c .before .before .args .room) (l .inv .2 n t d h) h (c .loop-test .left) (l .inv .1))
+    (l .inv .1, λ n t d h. growing-end n (neighbours t) (c .before .before .args .room) (l .inv .2 n t d h) h (c .loop-test .left))
 
 pub component-spec : {M : Type 1} → statement M
 component-spec =

@@ -1,0 +1,162 @@
+-- The levels of a seed grow as a component does that keeps to no room. So the stations in some level are exactly those that a chain of neighbours joins to the
+-- seed, and where a round stands these are all stations. Assumes nothing.
+use mathlib.Core.Path.{_≡_, refl, sym, ap, _∙_, subst}
+use mathlib.Core.Logic.{⊎-elim}
+use mathlib.Core.Bool.{Bool, true, false, not, _&&_, _||_}
+use mathlib.Core.List.{List, [], _∷_}
+use Prim.Native.Nat.{ℕ, zero, suc, _+_, _^_, _≤_, _<_}
+use native.Mathlib.Omega.{arith}
+use lib.Bits.{bitOr}
+use lib.Count.{ones, ones-le}
+use borrow.Author.Tests.{ne-eqb}
+use Rattle.bitset.specs.Sets.{has, setOf, minus, join}
+use Rattle.bitset.proofs.BoolLaws.{clash, taut1, cond-false}
+use Rattle.bitset.proofs.QuantLaws.{below?}
+use Rattle.bitset.proofs.HasLaws.{has-zero, has-or}
+use Rattle.bitset.proofs.SetLaws.{setOf-lt, has-setOf, setOf-ext, has-self, or-setOf, minus-elim, none-zero}
+use Rattle.bitset.proofs.OnesLaws.{ones-pos, ones-join}
+use Rattle.bitset.proofs.MachineLaws.{minus-of}
+use Rattle.circuit.specs.Legs.{neighbours}
+use Rattle.circuit.specs.Round.{RoundOf, iter}
+use Rattle.circuit.proofs.LegsLaws.{neighbours-leg}
+use Rattle.circuit.proofs.Turn.{iter-stays, all-from}
+use Rattle.separator.specs.Components.{grow}
+use Rattle.separator.specs.Levels.{neighbourhood, levelsFrom, levels, reached, unreached}
+use Rattle.separator.proofs.ComponentLaws.{grown-closed, grow-keeps}
+use Rattle.separator.proofs.GrowLaws.{Growing, growing-start, growing-turn, growing-end}
+use Rattle.separator.proofs.NeighbourLaws.{leads, neighbourhood-lt}
+
+-- ---- one level after the other
+
+-- all stations, as a room to grow in
+abbrev pub everywhere : ℕ → ℕ
+everywhere n = setOf n (λ _. true)
+
+-- the level after `last`
+abbrev pub nextLevel : ℕ → List ℕ → ℕ → ℕ → ℕ
+nextLevel n t seen last = minus n (neighbourhood n t last) seen
+
+pub next-below : (n : ℕ) (t : List ℕ) (seen last : ℕ) → nextLevel n t seen last < 2 ^ n
+unfolding minus
+next-below n t seen last = setOf-lt n _
+
+pub from-more : (f n : ℕ) (t : List ℕ) (seen last : ℕ) → seen < 2 ^ n → 0 < last
+    → levelsFrom (suc f) n t seen last ≡ last ∷ levelsFrom f n t (bitOr seen (nextLevel n t seen last)) (nextLevel n t seen last)
+unfolding levelsFrom join
+from-more f n t seen last h p =
+    let next : ℕ = nextLevel n t seen last in
+    cond-false [] _ (ne-eqb last 0 (λ z. omega arith))
+    ∙ ap (λ (s : ℕ). last ∷ levelsFrom f n t s next) (sym (or-setOf n seen next h (next-below n t seen last)))
+
+pub from-none : (f n : ℕ) (t : List ℕ) (seen : ℕ) → levelsFrom f n t seen 0 ≡ []
+unfolding levelsFrom
+from-none zero n t seen = refl
+from-none (suc f) n t seen = refl
+
+-- no station is in two levels
+next-ones : (n : ℕ) (t : List ℕ) (seen last : ℕ) → seen < 2 ^ n → ones (bitOr seen (nextLevel n t seen last)) ≡ ones seen + ones (nextLevel n t seen last)
+next-ones n t seen last h =
+    subst (λ (w : ℕ). ones (bitOr seen w) ≡ ones seen + ones w) (minus-of (omega arith) (neighbourhood n t last) seen (neighbourhood-lt n t last) h)
+    (ones-join n seen (neighbourhood n t last) h)
+
+-- `seen` has the stations of the levels up to `last`
+abbrev pub Reaching : ℕ → List ℕ → ℕ → ℕ → ℕ → Type 0
+Reaching n t seed seen last = Growing n (neighbours t) (everywhere n) seed seen last
+
+module _ (n : ℕ) (t : List ℕ) (seed : ℕ) (low : seed < n) where
+  pub reaching-start : Reaching n t seed (2 ^ seed) (2 ^ seed)
+  reaching-start = growing-start n (neighbours t) (everywhere n) seed low
+
+  -- the next level is what comes in next
+  pub reaching-turn : (seen last : ℕ) → Reaching n t seed seen last → Reaching n t seed (bitOr seen (nextLevel n t seen last)) (nextLevel n t seen last)
+  unfolding minus neighbourhood
+  reaching-turn seen last g = growing-turn n (neighbours t) (everywhere n) g low (nextLevel n t seen last) (next-below n t seen last) fresh
+    where
+      fresh : (k : ℕ) → k < n → has (nextLevel n t seen last) k ≡ leads n (neighbours t) last k && has (everywhere n) k && not (has seen k)
+      fresh k l =
+          has-setOf n (λ j. has (neighbourhood n t last) j && not (has seen j)) k l
+          ∙ ap (λ (b : Bool). b && not (has seen k))
+          (has-setOf n (leads n (neighbours t) last) k l
+          ∙ sym (ap (λ (b : Bool). leads n (neighbours t) last k && b) (has-setOf n (λ _. true) k l) ∙ taut1 (λ b. b && true) (λ b. b) refl (leads n (neighbours t) last k)))
+
+  -- ---- the stations in some level
+
+  -- what the seed leads to
+  abbrev pub grown : ℕ
+  grown = grow n n (neighbours t) (everywhere n) (2 ^ seed)
+
+  -- the stations seen before `last`, and those of the levels from there on, f at most, are what the seed leads to
+  abbrev Told : ℕ → ℕ → ℕ → ℕ → Type 0
+  Told f seen last k = has seen k && not (has last k) || reached (levelsFrom f n t seen last) k ≡ has grown k
+
+  -- no level is left
+  told-end : (f seen last : ℕ) → Reaching n t seed seen last → last ≡ 0 → (k : ℕ) → Told f seen last k
+  unfolding reached
+  told-end f seen last g z k =
+      ap (λ (ls : List ℕ). has seen k && not (has last k) || reached ls k) (ap (levelsFrom f n t seen) z ∙ from-none f n t seen)
+      ∙ ap (λ (b : Bool). has seen k && not b || false) (ap (λ (w : ℕ). has w k) z ∙ has-zero k)
+      ∙ taut1 (λ b. b && true || false) (λ b. b) refl (has seen k)
+      ∙ ap (λ (w : ℕ). has w k) (growing-end n (neighbours t) (everywhere n) g low z)
+
+  -- of a station: seen, in the last level, in the next, in a later one
+  turn-bits : (a b c r : Bool) → (b ≡ true → a ≡ true) → (c ≡ true → a ≡ false) → a && not b || (b || r) ≡ (a || c) && not c || r
+  turn-bits true b true r p q = clash (q refl)
+  turn-bits true true false r p q = refl
+  turn-bits true false false r p q = refl
+  turn-bits false true c r p q = clash (sym (p refl))
+  turn-bits false false true r p q = refl
+  turn-bits false false false r p q = refl
+
+  told-turn : (f seen last : ℕ) → Reaching n t seed seen last → 0 < last → (k : ℕ)
+      → Told f (bitOr seen (nextLevel n t seen last)) (nextLevel n t seen last) k → Told (suc f) seen last k
+  unfolding reached
+  told-turn f seen last g p k told =
+      let next : ℕ = nextLevel n t seen last in
+      let later : Bool = reached (levelsFrom f n t (bitOr seen next) next) k in
+      ap (λ (ls : List ℕ). has seen k && not (has last k) || reached ls k) (from-more f n t seen last (g .below) p)
+      ∙ turn-bits (has seen k) (has last k) (has next k) later (g .part k) (λ e. minus-elim n (neighbourhood n t last) seen k e .2)
+      ∙ ap (λ (b : Bool). b && not (has next k) || later) (sym (has-or seen next k))
+      ∙ told
+
+  -- each level has a station of its own, so that n levels are all
+  told : (f seen last : ℕ) → Reaching n t seed seen last → n + ones last ≤ f + ones seen → (k : ℕ) → Told f seen last k
+  told zero seen last g fuel k =
+      ⊎-elim (λ p. absurd (let z : ⊥ = omega (arith, ones-pos last p, ones-le n seen (g .below)) in z)) (λ p. told-end zero seen last g (omega arith) k) (below? 0 last)
+  told (suc f) seen last g fuel k =
+      ⊎-elim
+      (λ p. told-turn f seen last g p k
+      (told f (bitOr seen (nextLevel n t seen last)) (nextLevel n t seen last) (reaching-turn seen last g)
+      (omega (arith, fuel, next-ones n t seen last (g .below), ones-pos last p)) k))
+      (λ p. told-end (suc f) seen last g (omega arith) k) (below? 0 last)
+
+  -- a station is in some level exactly where the seed leads to it
+  pub levels-reached : (k : ℕ) → reached (levels n t seed) k ≡ has grown k
+  unfolding levels
+  levels-reached k =
+      sym (ap (λ (b : Bool). b || reached (levels n t seed) k) (taut1 (λ b. b && not b) (λ _. false) refl (has (2 ^ seed) k)))
+      ∙ told n (2 ^ seed) (2 ^ seed) reaching-start (omega arith) k
+
+  -- so the others are unreached
+  pub unreached-grown : unreached n (levels n t seed) ≡ setOf n (λ k. not (has grown k))
+  unfolding unreached
+  unreached-grown = setOf-ext n _ _ (λ k l. ap not (levels-reached k))
+
+  -- ---- rounds
+
+  -- a round leads from the seed to every station
+  round-grows : (h : ℕ → ℕ) → RoundOf n t h → (m : ℕ) → has grown (iter h m seed) ≡ true
+  round-grows h r zero = grow-keeps n (neighbours t) (everywhere n) n (2 ^ seed) seed low (has-self seed)
+  round-grows h r (suc m) =
+      let a : ℕ = iter h m seed in
+      let la = iter-stays r m seed low in
+      let lb = iter-stays r (suc m) seed low in
+      grown-closed n (neighbours t) (everywhere n) (2 ^ seed) seed low (has-self seed) a (h a) la lb
+      (neighbours-leg t a (h a) (r .drives a la)) (has-setOf n (λ _. true) (h a) lb) (round-grows h r m)
+
+  -- a table with a round reaches every station from every seed
+  pub round-reaches : (h : ℕ → ℕ) → RoundOf n t h → unreached n (levels n t seed) ≡ 0
+  round-reaches h r =
+      unreached-grown
+      ∙ none-zero n (setOf n (λ k. not (has grown k))) (setOf-lt n _) (λ k l.
+      let (m, _, e) = all-from r seed low k l in
+      has-setOf n (λ k. not (has grown k)) k l ∙ ap not (ap (has grown) (sym e) ∙ round-grows h r m))
