@@ -1,4 +1,4 @@
--- Rounds from the depot wall: the items with ◆ as one list, with the step counts of W-201, and beside them what W-201 was asked for.
+-- Rounds from the depot wall: the items with ◆ as one list, with the step counts of W-201, and beside them what W-201 and W-202 were asked for.
 use mathlib.Core.Bool.{Bool, true, false, _&&_, _||_, Bool·beq}
 use mathlib.Core.List.{List, [], _∷_}
 use Prim.Native.Nat.{ℕ, suc}
@@ -112,7 +112,16 @@ unfoldable pub chainOfFour : Start
 chainOfFour =
     table 6 (leg 1 2 ∷ leg 2 3 ∷ leg 3 4 ∷ leg 4 1 ∷ leg 4 5 ∷ leg 4 6 ∷ leg 5 6 ∷ leg 6 5 ∷ leg 5 1 ∷ leg 6 1 ∷ [])
 
--- the items with ◆, and last those of W-201
+-- the rings 1→2→3→4→1 and 5→6→5, each station fixed
+unfoldable pub twoRings : List ℕ
+twoRings = 6 ∷ 4 ∷ 2 ∷ 4 ∷ 3 ∷ 4 ∷ 4 ∷ 4 ∷ 1 ∷ 4 ∷ 6 ∷ 4 ∷ 5 ∷ []
+
+-- two islands of three stations, all legs inside each
+unfoldable pub twoIslands : Start
+twoIslands =
+    table 6 (leg 1 2 ∷ leg 1 3 ∷ leg 2 1 ∷ leg 2 3 ∷ leg 3 1 ∷ leg 3 2 ∷ leg 4 5 ∷ leg 4 6 ∷ leg 5 4 ∷ leg 5 6 ∷ leg 6 4 ∷ leg 6 5 ∷ [])
+
+-- the items with ◆, then those of W-201, and last those of W-202
 unfoldable pub examples : List Example
 examples =
     sweeps (sheet nineLegs 64) (leg 1 2 ∷ leg 1 3 ∷ leg 2 1 ∷ [])
@@ -131,4 +140,7 @@ examples =
     ∷ refuses (3 ∷ 12 ∷ []) 3 1
     ∷ runs (sheet nineLegs 64) 16 "stable"
     ∷ chains chainOfFour (leg 4 1 ∷ []) false
+    ∷ passes (sheet twoRings 1) 1 [] true
+    ∷ passes twoIslands 1 [] true
+    ∷ runs twoIslands 3 "none"
     ∷ []

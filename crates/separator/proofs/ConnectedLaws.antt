@@ -38,7 +38,7 @@ walk-back swap (step {d = d} {e = e} w r k) = walk-on (step (stay k) (swap d e r
 
 module _ (n : ℕ) (R : ℕ → ℕ → Bool) (room : ℕ) (In : ℕ → Type 0) (inside : (i : ℕ) → has room i ≡ true → In i) where
   -- each station of w is walked to from k
-  abbrev From : ℕ → ℕ → Type 0
+  abbrev pub From : ℕ → ℕ → Type 0
   From k w = (j : ℕ) → has w j ≡ true → Walk R In k j
 
   spread-from : (k w : ℕ) → From k w → From k (spread n R room w)
@@ -56,7 +56,7 @@ module _ (n : ℕ) (R : ℕ → ℕ → Bool) (room : ℕ) (In : ℕ → Type 0)
   grow-from zero k w h = h
   grow-from (suc f) k w h = grow-from f k (spread n R room w) (spread-from k w h)
 
-  grown-from : (k : ℕ) → In k → From k (grow n n R room (2 ^ k))
+  pub grown-from : (k : ℕ) → In k → From k (grow n n R room (2 ^ k))
   grown-from k h = grow-from n k (2 ^ k) (λ j e. subst (Walk R In k) (sym (eqb-true j k (sym (has-pow k j) ∙ e))) (stay h))
 
   -- each set of the list is walked to from one station

@@ -1,7 +1,7 @@
 -- The levels of a seed grow as a component does that keeps to no room. So the stations in some level are exactly those that a chain of neighbours joins to the
 -- seed, and where a round stands these are all stations. Assumes nothing.
 use mathlib.Core.Path.{_≡_, refl, sym, ap, _∙_, subst}
-use mathlib.Core.Logic.{⊎-elim}
+use mathlib.Core.Logic.{_↔_, ⊎-elim}
 use mathlib.Core.Bool.{Bool, true, false, not, _&&_, _||_}
 use mathlib.Core.List.{List, [], _∷_}
 use Prim.Native.Nat.{ℕ, zero, suc, _+_, _^_, _≤_, _<_}
@@ -10,21 +10,25 @@ use lib.Bits.{bitOr}
 use lib.Count.{ones, ones-le}
 use borrow.Author.Tests.{ne-eqb}
 use Rattle.bitset.specs.Sets.{has, setOf, minus, join}
-use Rattle.bitset.proofs.BoolLaws.{clash, taut1, cond-false}
+use Rattle.bitset.proofs.BoolLaws.{clash, not-both, cases, taut1, cond-false}
 use Rattle.bitset.proofs.QuantLaws.{below?}
 use Rattle.bitset.proofs.HasLaws.{has-zero, has-or}
-use Rattle.bitset.proofs.SetLaws.{setOf-lt, has-setOf, setOf-ext, has-self, or-setOf, minus-elim, none-zero}
+use Rattle.bitset.proofs.SetLaws.{setOf-lt, has-setOf, setOf-elim, setOf-ext, has-self, or-setOf, minus-elim, none-zero}
 use Rattle.bitset.proofs.OnesLaws.{ones-pos, ones-join}
 use Rattle.bitset.proofs.MachineLaws.{minus-of}
 use Rattle.circuit.specs.Legs.{neighbours}
 use Rattle.circuit.specs.Round.{RoundOf, iter}
 use Rattle.circuit.proofs.LegsLaws.{neighbours-leg}
 use Rattle.circuit.proofs.Turn.{iter-stays, all-from}
+use Rattle.separator.specs.Choice.{stay, step}
 use Rattle.separator.specs.Components.{grow}
+use Rattle.separator.specs.Connected.{Free, Chain}
 use Rattle.separator.specs.Levels.{neighbourhood, levelsFrom, levels, reached, unreached}
 use Rattle.separator.proofs.ComponentLaws.{grown-closed, grow-keeps}
+use Rattle.separator.proofs.ConnectedLaws.{grown-from}
 use Rattle.separator.proofs.GrowLaws.{Growing, growing-start, growing-turn, growing-end}
 use Rattle.separator.proofs.NeighbourLaws.{leads, neighbourhood-lt}
+use Rattle.separator.proofs.RoundChoice.{walk-end}
 
 -- ---- one level after the other
 
@@ -141,22 +145,42 @@ module _ (n : ℕ) (t : List ℕ) (seed : ℕ) (low : seed < n) where
   unfolding unreached
   unreached-grown = setOf-ext n _ _ (λ k l. ap not (levels-reached k))
 
+  -- ---- chains of neighbours
+
+  walked : (k : ℕ) → Chain n t 0 seed k → has grown k ≡ true
+  walked k (stay f) = grow-keeps n (neighbours t) (everywhere n) n (2 ^ seed) seed low (has-self seed)
+  walked k (step {d = d} w e f) =
+      grown-closed n (neighbours t) (everywhere n) (2 ^ seed) seed low (has-self seed) d k (walk-end w .0) (f .0) e
+      (has-setOf n (λ _. true) k (f .0)) (walked d w)
+
+  -- A station is in some level exactly where a chain of neighbours joins the seed to it; with nothing to stay outside of, any chain will do.
+  pub reached-joined : (k : ℕ) → (reached (levels n t seed) k ≡ true) ↔ Chain n t 0 seed k
+  reached-joined k = (λ e. grown-from n (neighbours t) (everywhere n) (Free n 0) inside seed (low, has-zero seed) k (sym (levels-reached k) ∙ e), λ w. levels-reached k ∙ walked k w)
+    where
+      inside : (i : ℕ) → has (everywhere n) i ≡ true → Free n 0 i
+      inside i e = (setOf-elim n (λ _. true) i e .0, has-zero i)
+
+  -- where no station is unreached, every station is in some level
+  pub all-reached : unreached n (levels n t seed) ≡ 0 → (k : ℕ) → k < n → reached (levels n t seed) k ≡ true
+  unfolding unreached
+  all-reached z k l =
+      ⊎-elim (λ e. e) (λ f.
+      absurd (not-both (has-setOf n (λ k. not (reached (levels n t seed) k)) k l ∙ ap not f) (ap (λ (w : ℕ). has w k) z ∙ has-zero k)))
+      (cases (reached (levels n t seed) k))
+
   -- ---- rounds
 
-  -- a round leads from the seed to every station
-  round-grows : (h : ℕ → ℕ) → RoundOf n t h → (m : ℕ) → has grown (iter h m seed) ≡ true
-  round-grows h r zero = grow-keeps n (neighbours t) (everywhere n) n (2 ^ seed) seed low (has-self seed)
-  round-grows h r (suc m) =
+  -- a round is a chain from the seed to every station
+  along : (h : ℕ → ℕ) → RoundOf n t h → (m : ℕ) → Chain n t 0 seed (iter h m seed)
+  along h r zero = stay (low, has-zero seed)
+  along h r (suc m) =
       let a : ℕ = iter h m seed in
-      let la = iter-stays r m seed low in
-      let lb = iter-stays r (suc m) seed low in
-      grown-closed n (neighbours t) (everywhere n) (2 ^ seed) seed low (has-self seed) a (h a) la lb
-      (neighbours-leg t a (h a) (r .drives a la)) (has-setOf n (λ _. true) (h a) lb) (round-grows h r m)
+      step (along h r m) (neighbours-leg t a (h a) (r .drives a (iter-stays r m seed low))) (iter-stays r (suc m) seed low, has-zero (h a))
 
   -- a table with a round reaches every station from every seed
   pub round-reaches : (h : ℕ → ℕ) → RoundOf n t h → unreached n (levels n t seed) ≡ 0
+  unfolding unreached
   round-reaches h r =
-      unreached-grown
-      ∙ none-zero n (setOf n (λ k. not (has grown k))) (setOf-lt n _) (λ k l.
+      none-zero n (unreached n (levels n t seed)) (setOf-lt n _) (λ k l.
       let (m, _, e) = all-from r seed low k l in
-      has-setOf n (λ k. not (has grown k)) k l ∙ ap not (ap (has grown) (sym e) ∙ round-grows h r m))
+      has-setOf n (λ k. not (reached (levels n t seed) k)) k l ∙ ap not (reached-joined k .1 (subst (Chain n t 0 seed) e (along h r m))))
