@@ -332,14 +332,15 @@ impl Session<'_> {
         Ok(answer)
     }
 
-    /// Counts a chain step or a pass that was not refused by what it did to the
-    /// current state.
+    /// Counts a chain step or a pass by what it did to the current state.
     fn count_by_hand(&mut self, call: &Call, answer: &Answer) {
         let Answer::Handled(handled) = answer else {
             return;
         };
+        if handled.number != card::TAKEN {
+            return;
+        }
         match call {
-            _ if handled.number != card::TAKEN => {}
             Call::Chain => self.counts.chains.note(&self.state, handled),
             Call::Pass { seed } => self.counts.islands.note(&self.state, *seed, handled),
             _ => {}

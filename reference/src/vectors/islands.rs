@@ -135,7 +135,7 @@ fn bad_states(script: &mut Script) {
     let good = WorkState::opened(&full_islands(&[3, 2]), 1);
     let place = last_place(good.n) + 1;
     let mut beyond = good;
-    // A leg by which station 6, which there is not, would join both islands.
+    // Legs by which station 6, which there is not, would join the islands.
     beyond.rows[5] = 0b1_0001;
     for state in [WorkState { place, ..good }, beyond] {
         script.work(&state);
