@@ -4,6 +4,7 @@
 mod call;
 mod difference;
 mod draw;
+mod islands;
 mod made;
 mod watch;
 
@@ -22,6 +23,7 @@ use crate::program;
 use crate::state::{End, WorkState};
 
 pub use self::difference::Difference;
+pub use self::islands::IslandCounts;
 pub use self::made::Made;
 
 type Found<T> = Result<T, Box<Difference>>;
@@ -41,6 +43,7 @@ pub struct Counts {
     /// Sequences on a table with a known round.
     pub watched: u64,
     pub chains: ChainCounts,
+    pub islands: IslandCounts,
 }
 
 /// Chain steps by hand that were not refused, by what they did.
@@ -88,6 +91,7 @@ impl Counts {
         self.ended_none += other.ended_none;
         self.watched += other.watched;
         self.chains.add(&other.chains);
+        self.islands.add(&other.islands);
     }
 
     fn note(&mut self, answer: &Answer) {
@@ -199,11 +203,14 @@ impl Session<'_> {
         Ok(())
     }
 
-    /// A chain step on the opened state, then calls in any order, the whole run,
-    /// and more calls on the ended state: some of any kind, then reports into
-    /// buffers of every length that matters.
+    /// A chain step on the opened state, on islands passes and runs too, then calls
+    /// in any order, the whole run, and more calls on the ended state: some of any
+    /// kind, then reports into buffers of every length that matters.
     fn sequence(&mut self) -> Found<()> {
         self.chain_and_back()?;
+        if self.made.islands {
+            self.islands_and_back()?;
+        }
         for _ in 0..self.rng.between(4, 9) {
             match self.rng.below(12) {
                 0 => self.bad_state()?,
@@ -226,6 +233,25 @@ impl Session<'_> {
     fn chain_and_back(&mut self) -> Found<()> {
         let kept = self.state;
         self.call(Call::Chain)?;
+        self.put(kept);
+        Ok(())
+    }
+
+    /// Passes and runs with a low limit that the following calls don't see, each
+    /// from a state of its own: after none there is nothing to compare.
+    fn islands_and_back(&mut self) -> Found<()> {
+        let kept = self.state;
+        for _ in 0..3 {
+            let narrow = draw::narrow(&mut self.rng, &kept);
+            let calls = [
+                draw::sound_pass(&mut self.rng, &narrow),
+                draw::run(&mut self.rng, &narrow),
+            ];
+            for call in calls {
+                self.put(narrow);
+                self.call(call)?;
+            }
+        }
         self.put(kept);
         Ok(())
     }
@@ -294,11 +320,7 @@ impl Session<'_> {
         if with_plain && answer != self.make(&call, &Plain) {
             return Err(self.difference("the plain answer differs", &answer));
         }
-        if let (Call::Chain, Answer::Handled(chained)) = (&call, &answer) {
-            if chained.number == card::TAKEN {
-                self.counts.chains.note(&self.state, chained);
-            }
-        }
+        self.count_by_hand(&call, &answer);
         if let Some(state) = answer.state() {
             if let Some(fault) = self.watch.fault(state) {
                 return Err(self.difference(fault, &answer));
@@ -308,6 +330,21 @@ impl Session<'_> {
         self.counts.note(&answer);
         self.counts.plain += u64::from(with_plain);
         Ok(answer)
+    }
+
+    /// Counts a chain step or a pass by what it did to the current state.
+    fn count_by_hand(&mut self, call: &Call, answer: &Answer) {
+        let Answer::Handled(handled) = answer else {
+            return;
+        };
+        if handled.number != card::TAKEN {
+            return;
+        }
+        match call {
+            Call::Chain => self.counts.chains.note(&self.state, handled),
+            Call::Pass { seed } => self.counts.islands.note(&self.state, *seed, handled),
+            _ => {}
+        }
     }
 
     fn make(&self, call: &Call, calls: &dyn Calls) -> Answer {

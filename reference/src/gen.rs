@@ -368,6 +368,49 @@ fn islands(rng: &mut Xorshift, n: usize) -> LegTable {
     table
 }
 
+/// Two or three groups without any leg between them. In one whose stations are all
+/// joined there is no inner level; in one of two halves, joined across, the only
+/// one has about half of the stations, and a pass with a low limit skips it.
+pub fn wide_islands(rng: &mut Xorshift, n: usize) -> LegTable {
+    let mut table = LegTable::empty(n);
+    let order = rng.order(n);
+    let mut rest = &order[..];
+    for more in (0..rng.between(2, n.min(3))).rev() {
+        let size = match more {
+            0 => rest.len(),
+            _ if rng.percent(25) => 1,
+            _ => rng.between(1, rest.len() - more),
+        };
+        let (island, others) = rest.split_at(size);
+        join_island(rng, &mut table, island);
+        rest = others;
+    }
+    table
+}
+
+/// Roads between all stations or between two halves; some may be one-way.
+fn join_island(rng: &mut Xorshift, table: &mut LegTable, island: &[usize]) {
+    let halves = rng.percent(70);
+    let two_way = rng.pick(&[40, 90, 100]);
+    let middle = island.len() / 2;
+    for (at, &i) in island.iter().enumerate() {
+        for (before, &j) in island[..at].iter().enumerate() {
+            if !halves || (before < middle && middle <= at) {
+                add_road(rng, table, (i, j), two_way);
+            }
+        }
+    }
+}
+
+/// Both legs with some chance, in percent, else one of them.
+fn add_road(rng: &mut Xorshift, table: &mut LegTable, (i, j): Leg, two_way: usize) {
+    let (from, to) = if rng.percent(50) { (i, j) } else { (j, i) };
+    table.add(from, to);
+    if rng.percent(two_way) {
+        table.add(to, from);
+    }
+}
+
 fn hubs(rng: &mut Xorshift, n: usize) -> LegTable {
     let hubs = n / 2 + rng.below(2);
     let mut table = LegTable::empty(n);

@@ -22,6 +22,17 @@ pub fn levels(table: &LegTable, seed: usize) -> Vec<BTreeSet<usize>> {
     levels
 }
 
+/// The stations in no level.
+pub fn unreached(table: &LegTable, levels: &[BTreeSet<usize>]) -> BTreeSet<usize> {
+    let in_no_level = |i: &usize| !levels.iter().any(|level| level.contains(i));
+    table.stations().filter(in_no_level).collect()
+}
+
+/// The levels between the first and the last.
+pub fn inner(levels: &[BTreeSet<usize>]) -> &[BTreeSet<usize>] {
+    levels.get(1..levels.len() - 1).unwrap_or_default()
+}
+
 /// The connected groups of all stations outside the separator, by their lowest
 /// station.
 pub fn components(table: &LegTable, separator: &BTreeSet<usize>) -> Vec<BTreeSet<usize>> {

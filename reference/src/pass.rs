@@ -1,4 +1,5 @@
-//! The pass with a seed: each inner level is a separator to filter by.
+//! The pass with a seed: every station has to be in a level, and each inner level
+//! is a separator to filter by.
 
 use std::collections::BTreeSet;
 
@@ -21,12 +22,15 @@ pub fn pass(state: WorkState, seed: u64) -> Handled {
     })
 }
 
-/// The levels belong to the table at the start, components and marks to the
-/// table that the levels before have left.
+/// An unreached station gives none before any level is looked at. The levels
+/// belong to the table at the start, components and marks to the table that the
+/// levels before have left.
 pub fn pass_table(table: &mut LegTable, seed: usize, limit: usize) -> Verdict {
     let levels = graph::levels(table, seed);
-    let last = levels.len() - 1;
-    for level in levels.iter().take(last).skip(1) {
+    if !graph::unreached(table, &levels).is_empty() {
+        return Verdict::None;
+    }
+    for level in graph::inner(&levels) {
         if level.len() <= limit && filter(table, level) == Verdict::None {
             return Verdict::None;
         }

@@ -128,6 +128,11 @@ fn tell(seed: u64, sheets: u64, counts: &Counts) {
         "  chain steps by hand: {} struck legs, {} gave none, {} left the table, {} came after none",
         chains.struck, chains.none, chains.left, chains.ended
     );
+    let islands = &counts.islands;
+    println!(
+        "  passes by hand with a station unreached: {} without inner level, {} with all over the limit, {} with one to look at",
+        islands.no_level, islands.over_limit, islands.level
+    );
 }
 
 fn tell_difference(seed: u64, (index, difference): &Found) {

@@ -56,17 +56,21 @@ fn stations(state: &WorkState) -> usize {
 }
 
 fn pass(rng: &mut Xorshift, state: &WorkState) -> Call {
-    let n = stations(state);
     let seed = match rng.below(20) {
         0 => 0,
-        1 => n as u64 + 1,
+        1 => stations(state) as u64 + 1,
         2 => rng.pick(&WIDE_NUMBERS),
-        _ => rng.between(1, n) as u64,
+        _ => return sound_pass(rng, state),
     };
     Call::Pass { seed }
 }
 
-fn run(rng: &mut Xorshift, state: &WorkState) -> Call {
+pub fn sound_pass(rng: &mut Xorshift, state: &WorkState) -> Call {
+    let seed = rng.between(1, stations(state)) as u64;
+    Call::Pass { seed }
+}
+
+pub fn run(rng: &mut Xorshift, state: &WorkState) -> Call {
     let budget = match rng.below(10) {
         0 => 0,
         1..=3 => rng.between(1, 3) as u32,
@@ -170,6 +174,16 @@ fn wrong_number(rng: &mut Xorshift, near: &[u64]) -> u64 {
     } else {
         rng.pick(&WIDE_NUMBERS)
     }
+}
+
+/// The same table with a low limit, as opened or moved.
+pub fn narrow(rng: &mut Xorshift, state: &WorkState) -> WorkState {
+    let limit = rng.pick(&[1, 1, 2, 3]);
+    let narrow = WorkState { limit, ..*state };
+    if rng.percent(50) {
+        return narrow;
+    }
+    moved(rng, &narrow)
 }
 
 /// The same table at any place, with any mark and end.

@@ -1,7 +1,7 @@
 //! The sheets to compare on, with what is known of them beforehand.
 
 use crate::card::Number;
-use crate::gen::{self, damaged, plant_round, random, Sheet, Xorshift};
+use crate::gen::{self, damaged, plant_round, random, wide_islands, Sheet, Xorshift};
 use crate::table::{Leg, LegTable};
 
 pub struct Made {
@@ -9,6 +9,9 @@ pub struct Made {
     pub known: Known,
     /// A round that was put into the table: entry i−1 follows station i.
     pub round: Option<Vec<usize>>,
+    /// The table is one on which the levels of a pass often say nothing, although
+    /// some stations are out of reach.
+    pub islands: bool,
 }
 
 /// What opening the sheet must give.
@@ -24,6 +27,7 @@ impl Made {
         match index % 4 {
             3 => damaged_sheet(rng, 1 + (index / 4 % 5) as Number),
             _ if rng.percent(10) => random_sheet(rng),
+            _ if rng.percent(8) => sheet_of_islands(rng),
             _ => sheet_of_table(rng),
         }
     }
@@ -45,6 +49,18 @@ fn random_sheet(rng: &mut Xorshift) -> Made {
         bytes: Sheet::random(rng, n).bytes(),
         known: Known::Nothing,
         round: None,
+        islands: false,
+    }
+}
+
+fn sheet_of_islands(rng: &mut Xorshift) -> Made {
+    let n = size(rng);
+    let table = wide_islands(rng, n);
+    Made {
+        bytes: any_sheet(rng, &table).bytes(),
+        known: Known::Table(table),
+        round: None,
+        islands: true,
     }
 }
 
@@ -55,15 +71,20 @@ fn sheet_of_table(rng: &mut Xorshift) -> Made {
     if let Some(round) = round.as_ref().filter(|_| rng.percent(30)) {
         decide_stations(rng, &mut table, round);
     }
-    let sheet = match rng.below(4) {
-        0 => Sheet::of(&table),
-        1 => Sheet::of_by_previous(&table),
-        _ => Sheet::mixed(rng, &table),
-    };
     Made {
-        bytes: sheet.bytes(),
+        bytes: any_sheet(rng, &table).bytes(),
         known: Known::Table(table),
         round,
+        islands: false,
+    }
+}
+
+/// A sheet that gives a table, by fields of any kind.
+fn any_sheet(rng: &mut Xorshift, table: &LegTable) -> Sheet {
+    match rng.below(4) {
+        0 => Sheet::of(table),
+        1 => Sheet::of_by_previous(table),
+        _ => Sheet::mixed(rng, table),
     }
 }
 
@@ -108,6 +129,7 @@ fn damaged_sheet(rng: &mut Xorshift, number: Number) -> Made {
         bytes: damaged.bytes,
         known,
         round: None,
+        islands: false,
     }
 }
 
@@ -118,5 +140,6 @@ fn noise(rng: &mut Xorshift) -> Made {
         bytes: bytes.collect(),
         known: Known::Nothing,
         round: None,
+        islands: false,
     }
 }

@@ -15,6 +15,20 @@ pub struct Grid {
     split: Split,
 }
 
+/// The levels from a seed, and the stations in none of them.
+struct Levels {
+    words: Rows,
+    last: usize,
+    unreached: u64,
+}
+
+impl Levels {
+    /// The levels between the first and the last.
+    fn inner(&self) -> &[u64] {
+        self.words.get(1..self.last).unwrap_or_default()
+    }
+}
+
 /// What a separator leaves: for each component the stations of the separator
 /// that can take it in an out-choice and in an in-choice.
 struct Split {
@@ -72,9 +86,12 @@ impl Grid {
 
     /// A pass; the seed is the index of its bit.
     pub fn pass(&mut self, seed: usize, limit: u32) -> Outcome {
-        let (levels, last) = self.levels(seed);
+        let levels = self.levels(seed);
+        if levels.unreached != 0 {
+            return Outcome::NONE;
+        }
         let mut outcome = Outcome::NOTHING;
-        for &separator in levels.get(1..last).unwrap_or_default() {
+        for &separator in levels.inner() {
             if separator.count_ones() > limit {
                 continue;
             }
@@ -94,21 +111,24 @@ impl Grid {
         self.rows[i] | self.columns[i]
     }
 
-    /// The levels from a seed and the index of the last one.
-    fn levels(&self, seed: usize) -> (Rows, usize) {
-        let mut levels = [0; 64];
+    fn levels(&self, seed: usize) -> Levels {
+        let mut words = [0; 64];
         let mut reached = bit(seed);
         let mut level = reached;
         let mut last = 0;
         loop {
-            levels[last] = level;
+            words[last] = level;
             let mut next = 0;
             for i in indices(level) {
                 next |= self.neighbours(i);
             }
             next &= !reached;
             if next == 0 {
-                return (levels, last);
+                return Levels {
+                    words,
+                    last,
+                    unreached: all_stations(self.n) & !reached,
+                };
             }
             reached |= next;
             level = next;

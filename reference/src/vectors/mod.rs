@@ -2,6 +2,7 @@
 
 mod bad_states;
 mod chains;
+mod islands;
 mod lines;
 mod lists;
 mod openings;
@@ -23,6 +24,7 @@ pub fn script() -> Script {
     sweeps::add(&mut script);
     chains::add(&mut script);
     passes::add(&mut script);
+    islands::add(&mut script);
     runs::add(&mut script);
     lists::add(&mut script);
     script

@@ -1,12 +1,16 @@
 //! The comparison finds nothing where nothing is wrong, and finds what is.
 
+use std::collections::BTreeSet;
+
 use reference::compare::{compare_sheet, Counts};
 use reference::gen::{any_table, Sheet, Xorshift};
+use reference::graph::{inner, levels, unreached};
 use reference::hand::{self, Handled};
 use reference::lines::Reported;
 use reference::list::Checked;
 use reference::run::Ran;
 use reference::sheet::Opened;
+use reference::state::last_place;
 use reference::{card, open, program, Calls, End, Fast, WorkState};
 
 #[test]
@@ -24,6 +28,8 @@ fn fast_calls_differ_nowhere() {
     assert!(counts.ended_stable > 100 && counts.ended_none > 80);
     let chains = &counts.chains;
     assert!(chains.struck > 100 && chains.none > 100 && chains.left > 100);
+    let islands = &counts.islands;
+    assert!(islands.no_level > 50 && islands.over_limit > 40 && islands.level > 20);
 }
 
 #[test]
@@ -62,12 +68,16 @@ enum Fault {
     EndsAtTheStations,
     LoopsMissed,
     OneChainOnly,
+    IslandsMissed,
+    IslandsMissedInTheCycle,
+    IslandsWithoutLevelMissed,
+    IslandsStruck,
     PrintsWhatFits,
     RefusalAsAnswer,
     Panics,
 }
 
-const FAULTS: [Fault; 14] = [
+const FAULTS: [Fault; 18] = [
     Fault::PlaceOfRefusal,
     Fault::RemovalCount,
     Fault::LimitIgnored,
@@ -79,10 +89,96 @@ const FAULTS: [Fault; 14] = [
     Fault::EndsAtTheStations,
     Fault::LoopsMissed,
     Fault::OneChainOnly,
+    Fault::IslandsMissed,
+    Fault::IslandsMissedInTheCycle,
+    Fault::IslandsWithoutLevelMissed,
+    Fault::IslandsStruck,
     Fault::PrintsWhatFits,
     Fault::RefusalAsAnswer,
     Fault::Panics,
 ];
+
+/// The unreached stations of a pass by hand that gave none, and its inner levels.
+struct Missed {
+    stations: BTreeSet<usize>,
+    inner: Vec<BTreeSet<usize>>,
+}
+
+impl Missed {
+    fn by(before: &WorkState, seed: u64, passed: &Handled) -> Option<Missed> {
+        if before.end == End::None || passed.state.end != End::None {
+            return None;
+        }
+        let table = before.table();
+        let levels = levels(&table, seed as usize);
+        let stations = unreached(&table, &levels);
+        (!stations.is_empty()).then(|| Missed {
+            stations,
+            inner: inner(&levels).to_vec(),
+        })
+    }
+
+    /// There is no inner level, or each is over the limit.
+    fn no_level_to_look_at(&self, limit: u64) -> bool {
+        self.inner.iter().all(|level| level.len() as u64 > limit)
+    }
+}
+
+/// A pass that asks no more than its levels.
+fn pass_by_levels(state: WorkState, seed: u64) -> Handled {
+    let passed = Fast.pass(state, seed);
+    match Missed::by(&state, seed, &passed) {
+        Some(missed) if missed.no_level_to_look_at(state.limit) => Handled { state, ..passed },
+        _ => passed,
+    }
+}
+
+/// One step of a run, with such a pass.
+fn step_by_levels(state: WorkState) -> Ran {
+    let ran = Fast.run(state, 1);
+    let is_pass = ran.steps == 1 && state.place > 1;
+    if !is_pass || pass_by_levels(state, state.place - 1).state != state {
+        return ran;
+    }
+    let mut after = state;
+    if state.place < last_place(state.n) {
+        after.place += 1;
+    } else {
+        after.place = 0;
+        after.mark = false;
+        if !state.mark {
+            after.end = End::Stable;
+        }
+    }
+    Ran {
+        state: after,
+        ..ran
+    }
+}
+
+fn run_by_levels(state: WorkState, budget: u32) -> Ran {
+    let mut sum = Fast.run(state, 0);
+    while sum.steps < budget {
+        let ran = step_by_levels(sum.state);
+        if ran.steps == 0 {
+            break;
+        }
+        sum.state = ran.state;
+        sum.steps += 1;
+        sum.removed += ran.removed;
+    }
+    sum
+}
+
+/// Strikes the legs of the stations that a pass did not reach.
+fn without_missed(mut passed: Handled, missed: &Missed) -> Handled {
+    for &station in &missed.stations {
+        let row = &mut passed.state.rows[station - 1];
+        passed.removed += u64::from(row.count_ones());
+        *row = 0;
+    }
+    passed
+}
 
 /// The fast calls with one fault.
 struct Faulty(Fault);
@@ -134,12 +230,22 @@ impl Calls for Faulty {
             passed.state.limit = state.limit;
             return passed;
         }
-        Fast.pass(state, seed)
+        let passed = Fast.pass(state, seed);
+        let missed = Missed::by(&state, seed, &passed);
+        match (self.0, missed) {
+            (Fault::IslandsMissed, _) => pass_by_levels(state, seed),
+            (Fault::IslandsWithoutLevelMissed, Some(missed)) if missed.inner.is_empty() => {
+                Handled { state, ..passed }
+            }
+            (Fault::IslandsStruck, Some(missed)) => without_missed(passed, &missed),
+            _ => passed,
+        }
     }
 
     fn run(&self, state: WorkState, budget: u32) -> Ran {
         let budget = match self.0 {
             Fault::StopsEarly => budget.min(20),
+            Fault::IslandsMissedInTheCycle => return run_by_levels(state, budget),
             _ => budget,
         };
         let mut ran = Fast.run(state, budget);

@@ -6,6 +6,7 @@ mod chains;
 mod choices;
 mod compare;
 mod fast;
+mod islands;
 mod openings;
 mod programs;
 mod scripts;
