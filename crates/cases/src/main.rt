@@ -37,7 +37,7 @@ ghost use Prim.Native.Nat.{_≤_};
 ghost use lib.ListN.{length};
 
 // The longest script; what is past it is not read.
-const SCRIPT: usize = 425984;
+const SCRIPT: usize = 524288;
 
 // The longest report buffer.
 const REPORT: usize = 16384;
