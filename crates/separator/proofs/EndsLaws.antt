@@ -58,15 +58,15 @@ module _ (t : List ℕ) (s : ℕ) (cs : List ℕ) where
   last-entered zero p = absurd (omega arith)
   last-entered (suc c) p = let place : c ≡ suc c - 1 = omega arith in ap (λ (z : ℕ). entered t s (row cs z)) place
 
-  pub reached-bare : (i m : ℕ) → m ≡ 0 → s < 2 ^ 64 → bitAnd (row t i) s ≡ setOf 64 (λ j. has s j && stands 64 t cs i j m)
-  reached-bare i m z h = rw z (unfold stands in unfold leg in (
+  pub heads-bare : (i m : ℕ) → m ≡ 0 → s < 2 ^ 64 → bitAnd (row t i) s ≡ setOf 64 (λ j. has s j && stands 64 t cs i j m)
+  heads-bare i m z h = rw z (unfold stands in unfold leg in (
       eq-setOf 64 (bitAnd (row t i) s) _ (omega (arith, and-le-r (row t i) s)) (λ j l. has-and (row t i) s j ∙ and-comm (has (row t i) j) (has s j))))
 
-  pub reached-joined : (i m v : ℕ) → 0 < m → v ≡ setOf 64 (λ j. has s j && joins 64 t (row cs (m - 1)) i j)
+  pub heads-through : (i m v : ℕ) → 0 < m → v ≡ setOf 64 (λ j. has s j && joins 64 t (row cs (m - 1)) i j)
       → v ≡ setOf 64 (λ j. has s j && stands 64 t cs i j m)
   unfolding stands
-  reached-joined i zero v p e = absurd (omega arith)
-  reached-joined i (suc c) v p e =
+  heads-through i zero v p e = absurd (omega arith)
+  heads-through i (suc c) v p e =
       let place : suc c - 1 ≡ c = omega arith in
       e ∙ ap (λ (z : ℕ). setOf 64 (λ j. has s j && joins 64 t (row cs z) i j)) place
 

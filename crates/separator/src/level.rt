@@ -45,7 +45,7 @@ fn joined(rows: &[u64; 64], s: u64, part: u64, last: u64, i: usize) -> u64
 }
 
 // The stations j of s for which the mark m stands from i to j.
-fn reached(rows: &[u64; 64], s: u64, parts: &[u64; 64], m: usize, last: u64, i: usize) -> u64
+fn heads_from(rows: &[u64; 64], s: u64, parts: &[u64; 64], m: usize, last: u64, i: usize) -> u64
     requires { ⌜ (i < 64) × (m ≤ 64) × (last ≡ lastOf (now rows) s (now parts) m) ⌝ }
     ensures { λ r. ⌜ r ≡ setOf 64 (λ j. has s j && stands 64 (now (rows .entry)) (now (parts .entry)) i j m) ⌝ }
 {
@@ -66,7 +66,7 @@ fn ends_of(rows: &[u64; 64], s: u64, parts: &[u64; 64], m: usize) -> Ends
     let mut heads = 0u64;
     while rest != 0 {
         let i = u64::trailing_zeros(rest) as usize;
-        let more = reached(rows, s, parts, m, last, i) & !(1u64 << i);
+        let more = heads_from(rows, s, parts, m, last, i) & !(1u64 << i);
         tails = bitset::insert_if(tails, i, more);
         heads |= more;
         rest &= rest - 1;

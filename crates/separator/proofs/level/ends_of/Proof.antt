@@ -38,8 +38,8 @@ loop-holds c = gather-start _ (c .before .args .s) (c .before .fits .s .fits)
 cast-i : tie.Need-cast-i Inv-loop μ-loop
 cast-i c = omega (arith, low c)
 
-reached-requires : tie.Need-reached-requires Inv-loop μ-loop
-reached-requires c κs = (low c, c .before .before .before .pre, c .before .before .last-stations .ensures)
+heads-from-requires : tie.Need-heads-from-requires Inv-loop μ-loop
+heads-from-requires c κs = (low c, c .before .before .before .pre, c .before .before .last-stations .ensures)
 
 shl-more : tie.Need-shl-more Inv-loop μ-loop
 shl-more c = omega (arith, low (c .before))
@@ -59,7 +59,7 @@ loop-again c =
     let l = turn .before .loop in
     let a = turn .before .before .before .args in
     gather-turn _ _ _ (c .insert-if .result) (l .inv) (omega arith)
-    (heads-is (a .rows .now) (a .s) (a .parts .now) (trailingZeros 64 (l .rest)) (a .m) (c .before .reached .result) (low turn) (member turn) (c .before .reached .ensures))
+    (heads-is (a .rows .now) (a .s) (a .parts .now) (trailingZeros 64 (l .rest)) (a .m) (c .before .heads-from .result) (low turn) (member turn) (c .before .heads-from .ensures))
     (c .insert-if .ensures)
 
 returns : tie.Need-returns Inv-loop μ-loop
@@ -76,7 +76,7 @@ ends-of-spec =
     last-stations-requires
     loop-holds
     cast-i
-    reached-requires
+    heads-from-requires
     shl-more
     insert-if-requires
     sub-rest

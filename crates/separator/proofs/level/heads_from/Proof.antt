@@ -1,10 +1,10 @@
--- `level::reached` meets its contract. Assumes nothing.
+-- `level::heads_from` meets its contract. Assumes nothing.
 use borrow.Author.Needs.{needs}
 use mathlib.Core.Path.{_∙_}
 use native.Mathlib.Omega.{arith}
-use Rattle.separator.proofs.EndsLaws.{last-entered, reached-bare, reached-joined}
-use Rattle.separator.proofs.level.reached.Statement.{statement}
-use Rattle.separator.proofs.level.reached.Tie as tie
+use Rattle.separator.proofs.EndsLaws.{last-entered, heads-bare, heads-through}
+use Rattle.separator.proofs.level.heads_from.Statement.{statement}
+use Rattle.separator.proofs.level.heads_from.Tie as tie
 
 mul-result : tie.Need-mul-result
 mul-result c = search needs
@@ -16,7 +16,7 @@ returns : tie.Need-returns
 returns c =
     let s = c .before .before in
     let a = s .args in
-    reached-bare (a .rows .now) (a .s) (a .parts .now) (a .i) (a .m) (c .before .if1 .taken) (s .fits .s .fits)
+    heads-bare (a .rows .now) (a .s) (a .parts .now) (a .i) (a .m) (c .before .if1 .taken) (s .fits .s .fits)
 
 sub-joined : tie.Need-sub-joined
 sub-joined c = search needs
@@ -36,10 +36,10 @@ joined-requires c κs =
 returns-2 : tie.Need-returns-2
 returns-2 c =
     let a = c .before .before .before .args in
-    reached-joined (a .rows .now) (a .s) (a .parts .now) (a .i) (a .m) (c .joined .result) (omega arith) (c .joined .ensures)
+    heads-through (a .rows .now) (a .s) (a .parts .now) (a .i) (a .m) (c .joined .result) (omega arith) (c .joined .ensures)
 
-pub reached-spec : {M : Type 1} → statement M
-reached-spec =
+pub heads-from-spec : {M : Type 1} → statement M
+heads-from-spec =
     tie.close
     (tie.spec
     mul-result
