@@ -1,5 +1,6 @@
 -- Levels found one after the other, as the code finds them. Assumes nothing.
 use mathlib.Core.Path.{_≡_, sym, ap, _∙_, subst}
+use mathlib.Core.Bool.{not}
 use mathlib.Core.List.{List, []}
 use Prim.Native.Nat.{ℕ, zero, suc, _+_, _-_, _^_, _≤_, _<_, zero-le, suc-le-suc}
 use native.Mathlib.Nat.{sub-zero}
@@ -7,7 +8,6 @@ use native.Mathlib.Omega.{arith}
 use lib.Bits.{bitOr}
 use lib.Dec.{eqb}
 use lib.ListN.{length, take, set, replicate}
-use mathlib.Core.Bool.{not}
 use Rattle.bitset.specs.Sets.{has, setOf}
 use Rattle.bitset.proofs.BoolLaws.{cond-elim}
 use Rattle.circuit.specs.Legs.{neighbours}

@@ -19,8 +19,8 @@ use Rattle.separator.specs.Separates.{Separates}
 use Rattle.separator.proofs.ReachLaws.{nextLevel, next-below, from-more, from-none, Reaching, reaching-start, reaching-turn}
 
 -- a set that is not empty has a station
-some : (n w : ℕ) → w < 2 ^ n → 0 < w → (k : ℕ) × (k < n) × (has w k ≡ true)
-some n w h p = some-member n w (λ k. member-below n w k h) (ne-eqb w 0 (λ z. omega arith))
+some-station : (n w : ℕ) → w < 2 ^ n → 0 < w → (k : ℕ) × (k < n) × (has w k ≡ true)
+some-station n w h p = some-member n w (λ k. member-below n w k h) (ne-eqb w 0 (λ z. omega arith))
 
 front-cons : (P : ℕ → Type 0) (a : ℕ) (l : List ℕ) → P a → Each P (front l) → Each P (front (a ∷ l))
 unfolding front
@@ -35,10 +35,10 @@ module _ (n : ℕ) (t : List ℕ) (seed : ℕ) (low : seed < n) where
   -- a level after the first, with another after it
   parts : (seen last : ℕ) → Reaching n t seed seen last → has last seed ≡ false → 0 < last → 0 < nextLevel n t seen last → Separates n t last
   parts seen last g z p q =
-      let (b, lb, eb) = some n (nextLevel n t seen last) (next-below n t seen last) q in
+      let (b, lb, eb) = some-station n (nextLevel n t seen last) (next-below n t seen last) q in
       let far = minus-elim n (neighbourhood n t last) seen b eb .2 in
       record {
-        some = some n last (g .small) p;
+        some = some-station n last (g .small) p;
         side = minus n seen last;
         here = (seed, low, z, minus-intro n seen last seed low (g .first) z);
         there = (b, lb, is-false (has last b) (λ e. not-both (g .part b e) far), is-false (has (minus n seen last) b) (λ e. not-both (minus-elim n seen last b e .1) far));

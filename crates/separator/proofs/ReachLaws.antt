@@ -90,13 +90,13 @@ module _ (n : ℕ) (t : List ℕ) (seed : ℕ) (low : seed < n) where
   grown = grow n n (neighbours t) (everywhere n) (2 ^ seed)
 
   -- the stations seen before `last`, and those of the levels from there on, f at most, are what the seed leads to
-  abbrev Told : ℕ → ℕ → ℕ → ℕ → Type 0
-  Told f seen last k = has seen k && not (has last k) || reached (levelsFrom f n t seen last) k ≡ has grown k
+  abbrev AllFound : ℕ → ℕ → ℕ → ℕ → Type 0
+  AllFound f seen last k = has seen k && not (has last k) || reached (levelsFrom f n t seen last) k ≡ has grown k
 
   -- no level is left
-  told-end : (f seen last : ℕ) → Reaching n t seed seen last → last ≡ 0 → (k : ℕ) → Told f seen last k
+  found-end : (f seen last : ℕ) → Reaching n t seed seen last → last ≡ 0 → (k : ℕ) → AllFound f seen last k
   unfolding reached
-  told-end f seen last g z k =
+  found-end f seen last g z k =
       ap (λ (ls : List ℕ). has seen k && not (has last k) || reached ls k) (ap (levelsFrom f n t seen) z ∙ from-none f n t seen)
       ∙ ap (λ (b : Bool). has seen k && not b || false) (ap (λ (w : ℕ). has w k) z ∙ has-zero k)
       ∙ taut1 (λ b. b && true || false) (λ b. b) refl (has seen k)
@@ -111,34 +111,34 @@ module _ (n : ℕ) (t : List ℕ) (seed : ℕ) (low : seed < n) where
   turn-bits false false true r p q = refl
   turn-bits false false false r p q = refl
 
-  told-turn : (f seen last : ℕ) → Reaching n t seed seen last → 0 < last → (k : ℕ)
-      → Told f (bitOr seen (nextLevel n t seen last)) (nextLevel n t seen last) k → Told (suc f) seen last k
+  found-turn : (f seen last : ℕ) → Reaching n t seed seen last → 0 < last → (k : ℕ)
+      → AllFound f (bitOr seen (nextLevel n t seen last)) (nextLevel n t seen last) k → AllFound (suc f) seen last k
   unfolding reached
-  told-turn f seen last g p k told =
+  found-turn f seen last g p k rest =
       let next : ℕ = nextLevel n t seen last in
       let later : Bool = reached (levelsFrom f n t (bitOr seen next) next) k in
       ap (λ (ls : List ℕ). has seen k && not (has last k) || reached ls k) (from-more f n t seen last (g .below) p)
       ∙ turn-bits (has seen k) (has last k) (has next k) later (g .part k) (λ e. minus-elim n (neighbourhood n t last) seen k e .2)
       ∙ ap (λ (b : Bool). b && not (has next k) || later) (sym (has-or seen next k))
-      ∙ told
+      ∙ rest
 
   -- each level has a station of its own, so that n levels are all
-  told : (f seen last : ℕ) → Reaching n t seed seen last → n + ones last ≤ f + ones seen → (k : ℕ) → Told f seen last k
-  told zero seen last g fuel k =
-      ⊎-elim (λ p. absurd (let z : ⊥ = omega (arith, ones-pos last p, ones-le n seen (g .below)) in z)) (λ p. told-end zero seen last g (omega arith) k) (below? 0 last)
-  told (suc f) seen last g fuel k =
+  all-found : (f seen last : ℕ) → Reaching n t seed seen last → n + ones last ≤ f + ones seen → (k : ℕ) → AllFound f seen last k
+  all-found zero seen last g fuel k =
+      ⊎-elim (λ p. absurd (let z : ⊥ = omega (arith, ones-pos last p, ones-le n seen (g .below)) in z)) (λ p. found-end zero seen last g (omega arith) k) (below? 0 last)
+  all-found (suc f) seen last g fuel k =
       ⊎-elim
-      (λ p. told-turn f seen last g p k
-      (told f (bitOr seen (nextLevel n t seen last)) (nextLevel n t seen last) (reaching-turn seen last g)
+      (λ p. found-turn f seen last g p k
+      (all-found f (bitOr seen (nextLevel n t seen last)) (nextLevel n t seen last) (reaching-turn seen last g)
       (omega (arith, fuel, next-ones n t seen last (g .below), ones-pos last p)) k))
-      (λ p. told-end (suc f) seen last g (omega arith) k) (below? 0 last)
+      (λ p. found-end (suc f) seen last g (omega arith) k) (below? 0 last)
 
   -- a station is in some level exactly where the seed leads to it
   pub levels-reached : (k : ℕ) → reached (levels n t seed) k ≡ has grown k
   unfolding levels
   levels-reached k =
       sym (ap (λ (b : Bool). b || reached (levels n t seed) k) (taut1 (λ b. b && not b) (λ _. false) refl (has (2 ^ seed) k)))
-      ∙ told n (2 ^ seed) (2 ^ seed) reaching-start (omega arith) k
+      ∙ all-found n (2 ^ seed) (2 ^ seed) reaching-start (omega arith) k
 
   -- so the others are unreached
   pub unreached-grown : unreached n (levels n t seed) ≡ setOf n (λ k. not (has grown k))
