@@ -15,7 +15,7 @@ use Rattle.separator.specs.Levels.{levelsFrom, levels, unreached}
 use Rattle.separator.specs.inner.Reach.{Listed}
 use Rattle.separator.proofs.ArrayLaws.{Writing, writing-start, writing-turn, writing-end, listed-take}
 use Rattle.separator.proofs.GrowLaws.{growing-end}
-use Rattle.separator.proofs.ReachLaws.{everywhere, nextLevel, from-more, from-none, Reaching, reaching-start, reaching-turn, unreached-grown}
+use Rattle.separator.proofs.ReachLaws.{allStations, nextLevel, from-more, from-none, Reaching, reaching-start, reaching-turn, unreached-grown}
 
 -- there are at most n levels
 from-most : (f n : ℕ) (t : List ℕ) (seen last : ℕ) → length (levelsFrom f n t seen last) ≤ f
@@ -67,4 +67,4 @@ module _ (n : ℕ) (t : List ℕ) (seed : ℕ) (low : seed < n) where
     -- the stations that are not seen
     pub finding-missed : last ≡ 0 → setOf n (λ k. not (has seen k)) ≡ unreached n (levels n t seed)
     finding-missed z =
-        ap (λ (w : ℕ). setOf n (λ k. not (has w k))) (growing-end n (neighbours t) (everywhere n) (g .reaching) low z) ∙ sym (unreached-grown n t seed low)
+        ap (λ (w : ℕ). setOf n (λ k. not (has w k))) (growing-end n (neighbours t) (allStations n) (g .reaching) low z) ∙ sym (unreached-grown n t seed low)

@@ -32,9 +32,9 @@ use Rattle.separator.proofs.RoundChoice.{walk-end}
 
 -- ---- one level after the other
 
--- all stations, as a room to grow in
-abbrev pub everywhere : ℕ → ℕ
-everywhere n = setOf n (λ _. true)
+-- all n stations, as a room to grow in
+abbrev pub allStations : ℕ → ℕ
+allStations n = setOf n (λ _. true)
 
 -- the level after `last`
 abbrev pub nextLevel : ℕ → List ℕ → ℕ → ℕ → ℕ
@@ -65,18 +65,18 @@ next-ones n t seen last h =
 
 -- `seen` has the stations of the levels up to `last`
 abbrev pub Reaching : ℕ → List ℕ → ℕ → ℕ → ℕ → Type 0
-Reaching n t seed seen last = Growing n (neighbours t) (everywhere n) seed seen last
+Reaching n t seed seen last = Growing n (neighbours t) (allStations n) seed seen last
 
 module _ (n : ℕ) (t : List ℕ) (seed : ℕ) (low : seed < n) where
   pub reaching-start : Reaching n t seed (2 ^ seed) (2 ^ seed)
-  reaching-start = growing-start n (neighbours t) (everywhere n) seed low
+  reaching-start = growing-start n (neighbours t) (allStations n) seed low
 
   -- the next level is what comes in next
   pub reaching-turn : (seen last : ℕ) → Reaching n t seed seen last → Reaching n t seed (bitOr seen (nextLevel n t seen last)) (nextLevel n t seen last)
   unfolding minus neighbourhood
-  reaching-turn seen last g = growing-turn n (neighbours t) (everywhere n) g low (nextLevel n t seen last) (next-below n t seen last) fresh
+  reaching-turn seen last g = growing-turn n (neighbours t) (allStations n) g low (nextLevel n t seen last) (next-below n t seen last) fresh
     where
-      fresh : (k : ℕ) → k < n → has (nextLevel n t seen last) k ≡ leads n (neighbours t) last k && has (everywhere n) k && not (has seen k)
+      fresh : (k : ℕ) → k < n → has (nextLevel n t seen last) k ≡ leads n (neighbours t) last k && has (allStations n) k && not (has seen k)
       fresh k l =
           has-setOf n (λ j. has (neighbourhood n t last) j && not (has seen j)) k l
           ∙ ap (λ (b : Bool). b && not (has seen k))
@@ -87,7 +87,7 @@ module _ (n : ℕ) (t : List ℕ) (seed : ℕ) (low : seed < n) where
 
   -- what the seed leads to
   abbrev pub grown : ℕ
-  grown = grow n n (neighbours t) (everywhere n) (2 ^ seed)
+  grown = grow n n (neighbours t) (allStations n) (2 ^ seed)
 
   -- the stations seen before `last`, and those of the levels from there on, f at most, are what the seed leads to
   abbrev AllFound : ℕ → ℕ → ℕ → ℕ → Type 0
@@ -100,7 +100,7 @@ module _ (n : ℕ) (t : List ℕ) (seed : ℕ) (low : seed < n) where
       ap (λ (ls : List ℕ). has seen k && not (has last k) || reached ls k) (ap (levelsFrom f n t seen) z ∙ from-none f n t seen)
       ∙ ap (λ (b : Bool). has seen k && not b || false) (ap (λ (w : ℕ). has w k) z ∙ has-zero k)
       ∙ taut1 (λ b. b && true || false) (λ b. b) refl (has seen k)
-      ∙ ap (λ (w : ℕ). has w k) (growing-end n (neighbours t) (everywhere n) g low z)
+      ∙ ap (λ (w : ℕ). has w k) (growing-end n (neighbours t) (allStations n) g low z)
 
   -- of a station: seen, in the last level, in the next, in a later one
   turn-bits : (a b c r : Bool) → (b ≡ true → a ≡ true) → (c ≡ true → a ≡ false) → a && not b || (b || r) ≡ (a || c) && not c || r
@@ -148,16 +148,16 @@ module _ (n : ℕ) (t : List ℕ) (seed : ℕ) (low : seed < n) where
   -- ---- chains of neighbours
 
   walked : (k : ℕ) → Chain n t 0 seed k → has grown k ≡ true
-  walked k (stay f) = grow-keeps n (neighbours t) (everywhere n) n (2 ^ seed) seed low (has-self seed)
+  walked k (stay f) = grow-keeps n (neighbours t) (allStations n) n (2 ^ seed) seed low (has-self seed)
   walked k (step {d = d} w e f) =
-      grown-closed n (neighbours t) (everywhere n) (2 ^ seed) seed low (has-self seed) d k (walk-end w .0) (f .0) e
+      grown-closed n (neighbours t) (allStations n) (2 ^ seed) seed low (has-self seed) d k (walk-end w .0) (f .0) e
       (has-setOf n (λ _. true) k (f .0)) (walked d w)
 
   -- A station is in some level exactly where a chain of neighbours joins the seed to it; with nothing to stay outside of, any chain will do.
   pub reached-joined : (k : ℕ) → (reached (levels n t seed) k ≡ true) ↔ Chain n t 0 seed k
-  reached-joined k = (λ e. grown-from n (neighbours t) (everywhere n) (Free n 0) inside seed (low, has-zero seed) k (sym (levels-reached k) ∙ e), λ w. levels-reached k ∙ walked k w)
+  reached-joined k = (λ e. grown-from n (neighbours t) (allStations n) (Free n 0) inside seed (low, has-zero seed) k (sym (levels-reached k) ∙ e), λ w. levels-reached k ∙ walked k w)
     where
-      inside : (i : ℕ) → has (everywhere n) i ≡ true → Free n 0 i
+      inside : (i : ℕ) → has (allStations n) i ≡ true → Free n 0 i
       inside i e = (setOf-elim n (λ _. true) i e .0, has-zero i)
 
   -- where no station is unreached, every station is in some level
