@@ -62,7 +62,7 @@ module _ (n : ℕ) (t : List ℕ) (seed : ℕ) (low : seed < n) where
         fuel = omega (arith, l)
 
     pub finding-end : last ≡ 0 → count ≤ 64 → Listed (levels n t seed) level count
-    finding-end z h = writing-end (g .written) h (ap (levelsFrom (n - count) n t seen) z ∙ from-none (n - count) n t seen)
+    finding-end z h = writing-end (g .written) h (from-none (n - count) n t seen last z)
 
     -- the stations that are not seen
     pub finding-missed : last ≡ 0 → setOf n (λ k. not (has seen k)) ≡ unreached n (levels n t seed)

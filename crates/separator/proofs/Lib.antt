@@ -14,6 +14,7 @@ pub mod GrowLaws
 pub mod ArrayLaws
 pub mod ReachLaws
 pub mod PartingLaws
+pub mod StayLaws
 pub mod LevelsLaws
 pub mod InnerLaws
 pub mod PartLaws

@@ -1,5 +1,5 @@
 -- Each level between the first and the last parts the stations: the levels before it are on one side, and the next one is on the other. Assumes nothing.
-use mathlib.Core.Path.{_≡_, sym, ap, _∙_, subst}
+use mathlib.Core.Path.{_≡_, sym, subst}
 use mathlib.Core.Logic.{⊎-elim}
 use mathlib.Core.Bool.{true, false}
 use mathlib.Core.List.{List, [], _∷_}
@@ -16,7 +16,7 @@ use Rattle.bitset.proofs.HasLaws.{member-below}
 use Rattle.bitset.proofs.SetLaws.{has-setOf, minus-intro, minus-elim, some-member}
 use Rattle.separator.specs.Levels.{neighbourhood, levelsFrom, levels, front, inner}
 use Rattle.separator.specs.Separates.{Separates}
-use Rattle.separator.proofs.ReachLaws.{nextLevel, next-below, from-more, from-none, Reaching, reaching-start, reaching-turn}
+use Rattle.separator.proofs.ReachLaws.{nextLevel, next-below, next-new, from-more, from-none, Reaching, reaching-start, reaching-turn}
 
 -- a set that is not empty has a station
 some-station : (n w : ℕ) → w < 2 ^ n → 0 < w → (k : ℕ) × (k < n) × (has w k ≡ true)
@@ -28,10 +28,6 @@ front-cons P a [] p h = tt
 front-cons P a (b ∷ l) p h = (p, h)
 
 module _ (n : ℕ) (t : List ℕ) (seed : ℕ) (low : seed < n) where
-  -- no station that is seen is in the next level
-  next-new : (seen last k : ℕ) → has seen k ≡ true → has (nextLevel n t seen last) k ≡ false
-  next-new seen last k e = is-false (has (nextLevel n t seen last) k) (λ f. not-both e (minus-elim n (neighbourhood n t last) seen k f .2))
-
   -- a level after the first, with another after it
   parts : (seen last : ℕ) → Reaching n t seed seen last → has last seed ≡ false → 0 < last → 0 < nextLevel n t seen last → Separates n t last
   parts seen last g z p q =
@@ -54,7 +50,7 @@ module _ (n : ℕ) (t : List ℕ) (seed : ℕ) (low : seed < n) where
   unfolding front
   front-parts zero seen last g z = unfold levelsFrom in tt
   front-parts (suc f) seen last g z =
-      go (front-parts f (bitOr seen next) next (reaching-turn n t seed low seen last g) (next-new seen last seed (g .first)))
+      go (front-parts f (bitOr seen next) next (reaching-turn n t seed low seen last g) (next-new n t seen last seed (g .first)))
     where
       next : ℕ
       next = nextLevel n t seen last
@@ -62,18 +58,15 @@ module _ (n : ℕ) (t : List ℕ) (seed : ℕ) (low : seed < n) where
       later : List ℕ
       later = levelsFrom f n t (bitOr seen next) next
 
-      last-one : next ≡ 0 → later ≡ []
-      last-one e = ap (levelsFrom f n t (bitOr seen next)) e ∙ from-none f n t (bitOr seen next)
-
       go : Parting (front later) → Parting (front (levelsFrom (suc f) n t seen last))
       go more =
           ⊎-elim
           (λ p. subst (λ ls. Parting (front ls)) (sym (from-more f n t seen last (g .below) p))
           (⊎-elim
           (λ q. front-cons (Separates n t) last later (parts seen last g z p q) more)
-          (λ q. subst (λ ls. Parting (front (last ∷ ls))) (sym (last-one (omega arith))) tt)
+          (λ q. subst (λ ls. Parting (front (last ∷ ls))) (sym (from-none f n t (bitOr seen next) next (omega arith))) tt)
           (below? 0 next)))
-          (λ p. subst (λ ls. Parting (front ls)) (sym (ap (levelsFrom (suc f) n t seen) (let e : last ≡ 0 = omega arith in e) ∙ from-none (suc f) n t seen)) tt)
+          (λ p. subst (λ ls. Parting (front ls)) (sym (from-none (suc f) n t seen last (omega arith))) tt)
           (below? 0 last)
 
   inner-from : (f : ℕ) → Parting (inner (levelsFrom f n t (2 ^ seed) (2 ^ seed)))
@@ -83,7 +76,7 @@ module _ (n : ℕ) (t : List ℕ) (seed : ℕ) (low : seed < n) where
       let first : ℕ = 2 ^ seed in
       let g = reaching-start n t seed low in
       subst (λ ls. Parting (inner ls)) (sym (from-more f n t first first (pow-lt low) (pow-pos seed)))
-      (front-parts f (bitOr first (nextLevel n t first first)) (nextLevel n t first first) (reaching-turn n t seed low first first g) (next-new first first seed (g .first)))
+      (front-parts f (bitOr first (nextLevel n t first first)) (nextLevel n t first first) (reaching-turn n t seed low first first g) (next-new n t first first seed (g .first)))
 
   -- levels 1 to m - 1
   pub inner-parts : Parting (inner (levels n t seed))

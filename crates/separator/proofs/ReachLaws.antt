@@ -8,9 +8,9 @@ use Prim.Native.Nat.{ℕ, zero, suc, _+_, _^_, _≤_, _<_}
 use native.Mathlib.Omega.{arith}
 use lib.Bits.{bitOr}
 use lib.Count.{ones, ones-le}
-use borrow.Author.Tests.{ne-eqb}
+use borrow.Author.Tests.{eq-eqb, ne-eqb}
 use Rattle.bitset.specs.Sets.{has, setOf, minus, join}
-use Rattle.bitset.proofs.BoolLaws.{clash, not-both, cases, taut1, cond-false}
+use Rattle.bitset.proofs.BoolLaws.{clash, not-both, is-false, cases, taut1, cond-true, cond-false}
 use Rattle.bitset.proofs.QuantLaws.{below?}
 use Rattle.bitset.proofs.HasLaws.{has-zero, has-or}
 use Rattle.bitset.proofs.SetLaws.{setOf-lt, has-setOf, setOf-elim, setOf-ext, has-self, or-setOf, minus-elim, none-zero}
@@ -40,9 +40,13 @@ allStations n = setOf n (λ _. true)
 abbrev pub nextLevel : ℕ → List ℕ → ℕ → ℕ → ℕ
 nextLevel n t seen last = minus n (neighbourhood n t last) seen
 
+-- has stations below n only, and none that is seen
 pub next-below : (n : ℕ) (t : List ℕ) (seen last : ℕ) → nextLevel n t seen last < 2 ^ n
 unfolding minus
 next-below n t seen last = setOf-lt n _
+
+pub next-new : (n : ℕ) (t : List ℕ) (seen last k : ℕ) → has seen k ≡ true → has (nextLevel n t seen last) k ≡ false
+next-new n t seen last k e = is-false (has (nextLevel n t seen last) k) (λ f. not-both e (minus-elim n (neighbourhood n t last) seen k f .2))
 
 pub from-more : (f n : ℕ) (t : List ℕ) (seen last : ℕ) → seen < 2 ^ n → 0 < last
     → levelsFrom (suc f) n t seen last ≡ last ∷ levelsFrom f n t (bitOr seen (nextLevel n t seen last)) (nextLevel n t seen last)
@@ -52,10 +56,10 @@ from-more f n t seen last h p =
     cond-false [] _ (ne-eqb last 0 (λ z. omega arith))
     ∙ ap (λ (s : ℕ). last ∷ levelsFrom f n t s next) (sym (or-setOf n seen next h (next-below n t seen last)))
 
-pub from-none : (f n : ℕ) (t : List ℕ) (seen : ℕ) → levelsFrom f n t seen 0 ≡ []
+pub from-none : (f n : ℕ) (t : List ℕ) (seen last : ℕ) → last ≡ 0 → levelsFrom f n t seen last ≡ []
 unfolding levelsFrom
-from-none zero n t seen = refl
-from-none (suc f) n t seen = refl
+from-none zero n t seen last z = refl
+from-none (suc f) n t seen last z = cond-true [] _ (eq-eqb last 0 z)
 
 -- no station is in two levels
 next-ones : (n : ℕ) (t : List ℕ) (seen last : ℕ) → seen < 2 ^ n → ones (bitOr seen (nextLevel n t seen last)) ≡ ones seen + ones (nextLevel n t seen last)
@@ -97,7 +101,7 @@ module _ (n : ℕ) (t : List ℕ) (seed : ℕ) (low : seed < n) where
   found-end : (f seen last : ℕ) → Reaching n t seed seen last → last ≡ 0 → (k : ℕ) → AllFound f seen last k
   unfolding reached
   found-end f seen last g z k =
-      ap (λ (ls : List ℕ). has seen k && not (has last k) || reached ls k) (ap (levelsFrom f n t seen) z ∙ from-none f n t seen)
+      ap (λ (ls : List ℕ). has seen k && not (has last k) || reached ls k) (from-none f n t seen last z)
       ∙ ap (λ (b : Bool). has seen k && not b || false) (ap (λ (w : ℕ). has w k) z ∙ has-zero k)
       ∙ taut1 (λ b. b && true || false) (λ b. b) refl (has seen k)
       ∙ ap (λ (w : ℕ). has w k) (growing-end n (neighbours t) (allStations n) g low z)
