@@ -58,6 +58,5 @@ pub(crate) fn pass_on(
     if found.unreached != 0 {
         return true;
     }
-    let level = found.level;
-    take_levels(rows, cols, n, limit, &level, found.count)
+    take_levels(rows, cols, n, limit, &found.level, found.count)
 }

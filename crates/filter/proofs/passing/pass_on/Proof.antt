@@ -43,14 +43,14 @@ taken c = let s = start c in levels-taken (s .args .n) (s .args .rows .now) (s .
 -- a station is unreached
 returns : tie.Need-returns
 returns c =
-    let f = c .before .before in
+    let f = c .before in
     let s = start f in
     let some : 0 < f .levels-from .result .unreached = omega (arith, c .if1 .taken) in
     taken-as (sym (pass-unreached (s .args .n) (s .args .rows .now) (s .args .limit) (s .args .seed) (subst (λ (w : ℕ). 0 < w) (found f .unreached) some)))
     (record { verdict = refl; table = s .pre .2 })
 
 abbrev all-reached : tie.Else1 → tie.After-levels-from
-all-reached c = c .before .before
+all-reached c = c .before
 
 take-levels-requires : tie.Need-take-levels-requires
 take-levels-requires c κs =
