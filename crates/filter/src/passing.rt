@@ -41,7 +41,7 @@ fn take_levels(
     false
 }
 
-// The pass with a seed, on the rows and the columns alike. A station in no level is on an island: the verdict is none before any level is looked at.
+// The pass with a seed, on the rows and the columns alike. If any station is unreached, the verdict is none before any level is looked at.
 // Answers whether the verdict is none.
 pub(crate) fn pass_on(
     rows: &mut [u64; 64],
