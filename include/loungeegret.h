@@ -92,7 +92,7 @@ uint32_t loungeegret_chain(uint64_t *state, size_t state_length, uint32_t *remov
 
 /*
  * A pass by hand. The seed is the number of a station, from 1. `*removed` as for a sweep. Where a station is out of reach, because no
- * chain of legs, each driven in either direction, joins the seed to it, the end becomes none and no leg goes: under every limit,
+ * path along legs, each taken in either direction, joins the seed to it, the end becomes none and no leg goes: under every limit,
  * before any separator is looked at.
  */
 uint32_t loungeegret_pass(uint64_t *state, size_t state_length, size_t seed, uint32_t *removed);

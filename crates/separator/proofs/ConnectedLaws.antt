@@ -1,4 +1,4 @@
--- The components outside a set are the connected groups: two stations are in the same one exactly when a chain of neighbours outside the set joins
+-- The components outside a set are the connected groups: two stations are in the same one exactly when a path of neighbours outside the set joins
 -- them. Assumes nothing.
 use mathlib.Core.Path.{_≡_, sym, _∙_, subst}
 use mathlib.Core.Logic.{_↔_, ⊎-elim}
@@ -19,7 +19,7 @@ use Rattle.circuit.specs.Legs.{neighbours}
 use Rattle.circuit.proofs.LegsLaws.{neighbours-swap}
 use Rattle.separator.specs.Choice.{Walk, stay, step}
 use Rattle.separator.specs.Components.{spread, grow, componentsFrom, components}
-use Rattle.separator.specs.Connected.{Free, Chain, Member, Together, ConnectedGroups}
+use Rattle.separator.specs.Connected.{Free, Joined, Member, Together, ConnectedGroups}
 use Rattle.separator.proofs.ComponentLaws.{components-closed, components-cover, components-own}
 use Rattle.separator.proofs.NeighbourLaws.{leads}
 use Rattle.separator.proofs.RoundChoice.{walk-start, walk-end}
@@ -88,8 +88,8 @@ module _ (n : ℕ) (t : List ℕ) (s : ℕ) where
   abbrev cs : List ℕ
   cs = components n t s
 
-  -- a station of each, from which a chain leads to all of it
-  root : (c : ℕ) → c < length cs → (k : ℕ) × ((j : ℕ) → has (getD cs c 0) j ≡ true → Chain n t s k j)
+  -- a station of each, from which a path leads to all of it
+  root : (c : ℕ) → c < length cs → (k : ℕ) × ((j : ℕ) → has (getD cs c 0) j ≡ true → Joined n t s k j)
   unfolding components
   root = list-rooted n (neighbours t) room (Free n s) out n room (λ k e. (out k e .0, e))
     where
@@ -99,10 +99,10 @@ module _ (n : ℕ) (t : List ℕ) (s : ℕ) where
       out : (i : ℕ) → has room i ≡ true → Free n s i
       out i e = let f = setOf-elim n (λ k. not (has s k)) i e in (f .0, not-true (has s i) (f .1))
 
-  joins : (c i j : ℕ) → Member cs c i → Member cs c j → Chain n t s i j
+  joins : (c i j : ℕ) → Member cs c i → Member cs c j → Joined n t s i j
   joins c i j (l, p) (_, q) = let (k, f) = root c l in walk-on (walk-back (neighbours-swap t) (f i p)) (f j q)
 
-  keeps : (c i j : ℕ) → Chain n t s i j → Member cs c i → Member cs c j
+  keeps : (c i j : ℕ) → Joined n t s i j → Member cs c i → Member cs c j
   keeps c i j (stay k) m = m
   keeps c i j (step {d = d} w e k) m = let (l, p) = keeps c i d w m in (l, components-closed n t s c d j (walk-end w .0) (k .0) (k .1) e p)
 
@@ -128,8 +128,8 @@ module _ (n : ℕ) (t : List ℕ) (s : ℕ) where
             ⊎-elim (λ l. absurd (earlier c d i l p q)) (λ g. ⊎-elim sym (λ l. absurd (earlier d c i l q p)) (eq-or-lt-of-le g)) (below? c d);
       }
 
-  -- Two stations are in the same component exactly when a chain of neighbours outside s joins them.
-  pub together-joined : (i j : ℕ) → Together (components n t s) i j ↔ Chain n t s i j
+  -- Two stations are in the same component exactly when a path of neighbours outside s joins them.
+  pub together-joined : (i j : ℕ) → Together (components n t s) i j ↔ Joined n t s i j
   together-joined i j = (λ (c, p, q). g .joined c i j p q, λ w. let (c, p) = g .covers i (walk-start w) in (c, p, g .kept c i j w p))
     where
       g : ConnectedGroups n t s (components n t s)

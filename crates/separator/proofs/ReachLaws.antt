@@ -1,4 +1,4 @@
--- The levels of a seed grow as a component does that keeps to no room. So the stations in some level are exactly those that a chain of neighbours joins to the
+-- The levels of a seed grow as a component does that keeps to no room. So the stations in some level are exactly those that a path of neighbours joins to the
 -- seed, and where a round stands these are all stations. Assumes nothing.
 use mathlib.Core.Path.{_≡_, refl, sym, ap, _∙_, subst}
 use mathlib.Core.Logic.{_↔_, ⊎-elim}
@@ -22,7 +22,7 @@ use Rattle.circuit.proofs.LegsLaws.{neighbours-leg}
 use Rattle.circuit.proofs.Turn.{iter-stays, all-from}
 use Rattle.separator.specs.Choice.{stay, step}
 use Rattle.separator.specs.Components.{grow}
-use Rattle.separator.specs.Connected.{Free, Chain}
+use Rattle.separator.specs.Connected.{Free, Joined}
 use Rattle.separator.specs.Levels.{neighbourhood, levelsFrom, levels, reached, unreached}
 use Rattle.separator.proofs.ComponentLaws.{grown-closed, grow-keeps}
 use Rattle.separator.proofs.ConnectedLaws.{grown-from}
@@ -149,16 +149,16 @@ module _ (n : ℕ) (t : List ℕ) (seed : ℕ) (low : seed < n) where
   unfolding unreached
   unreached-grown = setOf-ext n _ _ (λ k l. ap not (levels-reached k))
 
-  -- ---- chains of neighbours
+  -- ---- paths of neighbours
 
-  walked : (k : ℕ) → Chain n t 0 seed k → has grown k ≡ true
+  walked : (k : ℕ) → Joined n t 0 seed k → has grown k ≡ true
   walked k (stay f) = grow-keeps n (neighbours t) (allStations n) n (2 ^ seed) seed low (has-self seed)
   walked k (step {d = d} w e f) =
       grown-closed n (neighbours t) (allStations n) (2 ^ seed) seed low (has-self seed) d k (walk-end w .0) (f .0) e
       (has-setOf n (λ _. true) k (f .0)) (walked d w)
 
-  -- A station is in some level exactly where a chain of neighbours joins the seed to it; with nothing to stay outside of, any chain will do.
-  pub reached-joined : (k : ℕ) → (reached (levels n t seed) k ≡ true) ↔ Chain n t 0 seed k
+  -- A station is in some level exactly where a path of neighbours joins the seed to it; with nothing to stay outside of, any path will do.
+  pub reached-joined : (k : ℕ) → (reached (levels n t seed) k ≡ true) ↔ Joined n t 0 seed k
   reached-joined k = (λ e. grown-from n (neighbours t) (allStations n) (Free n 0) inside seed (low, has-zero seed) k (sym (levels-reached k) ∙ e), λ w. levels-reached k ∙ walked k w)
     where
       inside : (i : ℕ) → has (allStations n) i ≡ true → Free n 0 i
@@ -174,8 +174,8 @@ module _ (n : ℕ) (t : List ℕ) (seed : ℕ) (low : seed < n) where
 
   -- ---- rounds
 
-  -- a round is a chain from the seed to every station
-  along : (h : ℕ → ℕ) → RoundOf n t h → (m : ℕ) → Chain n t 0 seed (iter h m seed)
+  -- a round is a path from the seed to every station
+  along : (h : ℕ → ℕ) → RoundOf n t h → (m : ℕ) → Joined n t 0 seed (iter h m seed)
   along h r zero = stay (low, has-zero seed)
   along h r (suc m) =
       let a : ℕ = iter h m seed in
@@ -187,4 +187,4 @@ module _ (n : ℕ) (t : List ℕ) (seed : ℕ) (low : seed < n) where
   round-reaches h r =
       none-zero n (unreached n (levels n t seed)) (setOf-lt n _) (λ k l.
       let (m, _, e) = all-from r seed low k l in
-      has-setOf n (λ k. not (reached (levels n t seed) k)) k l ∙ ap not (reached-joined k .1 (subst (Chain n t 0 seed) e (along h r m))))
+      has-setOf n (λ k. not (reached (levels n t seed) k)) k l ∙ ap not (reached-joined k .1 (subst (Joined n t 0 seed) e (along h r m))))

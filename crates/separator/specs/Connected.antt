@@ -12,9 +12,9 @@ use Rattle.separator.specs.Choice.{Walk}
 abbrev pub Free : ℕ → ℕ → ℕ → Type 0
 Free n s i = (i < n) × (has s i ≡ false)
 
--- a chain of neighbours outside s joins two stations: each is a neighbour of the one before
-abbrev pub Chain : ℕ → List ℕ → ℕ → ℕ → ℕ → Type 0
-Chain n t s = Walk (neighbours t) (Free n s)
+-- a path of neighbours outside s joins two stations: each is a neighbour of the one before
+abbrev pub Joined : ℕ → List ℕ → ℕ → ℕ → ℕ → Type 0
+Joined n t s = Walk (neighbours t) (Free n s)
 
 -- i is in the group at place c of the list
 abbrev pub Member : List ℕ → ℕ → ℕ → Type 0
@@ -32,9 +32,9 @@ pub record ConnectedGroups (n : ℕ) (t : List ℕ) (s : ℕ) (cs : List ℕ) : 
   pub free : (c i : ℕ) → Member cs c i → Free n s i
   -- every station outside s is in a group
   pub covers : (i : ℕ) → Free n s i → (c : ℕ) × Member cs c i
-  -- a chain joins any two stations of a group
-  pub joined : (c i j : ℕ) → Member cs c i → Member cs c j → Chain n t s i j
-  -- a chain does not leave the group
-  pub kept : (c i j : ℕ) → Chain n t s i j → Member cs c i → Member cs c j
+  -- a path joins any two stations of a group
+  pub joined : (c i j : ℕ) → Member cs c i → Member cs c j → Joined n t s i j
+  -- a path does not leave the group
+  pub kept : (c i j : ℕ) → Joined n t s i j → Member cs c i → Member cs c j
   -- no two groups share a station
   pub apart : (c d i : ℕ) → Member cs c i → Member cs d i → c ≡ d
