@@ -49,12 +49,12 @@ returns c =
     taken-as (sym (pass-unreached (s .args .n) (s .args .rows .now) (s .args .limit) (s .args .seed) (subst (λ (w : ℕ). 0 < w) (found f .unreached) some)))
     (record { verdict = refl; table = s .pre .2 })
 
-abbrev all-reached : tie.Else1 → tie.After-levels-from
-all-reached c = c .before
+abbrev tested : tie.Else1 → tie.After-levels-from
+tested c = c .before
 
 take-levels-requires : tie.Need-take-levels-requires
 take-levels-requires c κs =
-    let f = all-reached (c .before .before .before .before) in
+    let f = tested (c .before .before .before .before) in
     let s = start f in
     let long : length (f .levels-from .result .level) ≡ 64 = (let ok = f .levels-from .ok in search needs) in
     (s .pre .0, taken f .0, long, level-below (s .args .n) (s .args .rows .now) (s .args .seed) _ _ (taken f .1) (s .pre .1), s .pre .2)
@@ -62,7 +62,7 @@ take-levels-requires c κs =
 returns-2 : tie.Need-returns-2
 returns-2 c =
     let e = c .before .before .before .before .before in
-    let f = all-reached e in
+    let f = tested e in
     let a = start f .args in
     let none : f .levels-from .result .unreached ≡ 0 = omega (arith, e .if1 .left) in
     taken-as
