@@ -48,7 +48,7 @@ fn neighbourhood(nbr: &[u64; 64], set: u64) -> u64
     bitset::union_of_rows(nbr, set)
 }
 
-// The levels from a seed: each is the neighbours of the last one that no level has yet.
+// The levels from a seed: each is the neighbours of the last one that no level has yet. The stations that none has are unreached.
 pub fn levels_from(nbr: &[u64; 64], n: usize, seed: usize) -> Levels
     requires { ⌜ (n ≤ 64) × (seed < n) ⌝ }
     ensures { λ r. ⌜ ((t : List ℕ) → Linked n t (now (nbr .entry)) → LevelsOf n t seed r) ⌝ }
