@@ -1,17 +1,18 @@
--- A component grown by the stations that came in last is the one that the definition grows by all its stations. Assumes nothing.
+-- Growing along a relation: it gives the least closed set that holds its start, so it needs no more stations than those that it reaches, and no more room than the
+-- relation keeps to; and the code, which goes on from the stations that came in last, grows the same. Assumes nothing.
 use mathlib.Core.Path.{_≡_, sym, ap, _∙_}
 use mathlib.Core.Logic.{_⊎_, ⊎-elim}
 use mathlib.Core.Bool.{Bool, true, false, not, _&&_, _||_}
-use Prim.Native.Nat.{ℕ, zero, suc, _^_, _<_}
+use Prim.Native.Nat.{ℕ, zero, suc, _^_, _≤_, _<_}
+use native.Mathlib.Nat.{lt-of-lt-of-le}
 use lib.Bits.{bitOr, or-lt}
-use lib.Pow.{pow-lt}
 use Rattle.bitset.specs.Sets.{has}
 use Rattle.bitset.specs.inner.Members.{Within}
 use Rattle.bitset.proofs.BoolLaws.{iff, not-both, cases, and-intro, and-l, and-r, or-l, or-r, or-cases}
 use Rattle.bitset.proofs.QuantLaws.{any-intro, any-elim}
-use Rattle.bitset.proofs.HasLaws.{has-zero, has-or, ext}
-use Rattle.bitset.proofs.SetLaws.{setOf-lt, has-setOf, has-self}
-use Rattle.bitset.proofs.OnesLaws.{pow-within}
+use Rattle.bitset.proofs.HasLaws.{has-zero, has-or, member-below, ext}
+use Rattle.bitset.proofs.SetLaws.{setOf-lt, has-setOf}
+use Rattle.bitset.proofs.MachineLaws.{wide}
 use Rattle.separator.specs.Components.{spread, grow}
 use Rattle.separator.proofs.ComponentLaws.{Closed, grown-closed, grow-keeps}
 use Rattle.separator.proofs.NeighbourLaws.{leads}
@@ -22,7 +23,7 @@ module _ (n : ℕ) (R : ℕ → ℕ → Bool) (room : ℕ) where
       let (i, l, f) = any-elim n (λ i. has w i && R i j) e in
       (i, l, and-l (has w i) (R i j) f, and-r (has w i) (R i j) f)
 
-  -- ---- the component is the least closed set that holds its first station
+  -- ---- the least closed set that holds its start
 
   spread-within : (v w : ℕ) → Closed n R room w → Within n v w → Within n (spread n R room v) w
   unfolding spread
@@ -32,45 +33,55 @@ module _ (n : ℕ) (R : ℕ → ℕ → Bool) (room : ℕ) where
       c i j li l r (and-l (has room j) (leads n R v j) q) (s i li hi))
       (or-cases (has v j) (has room j && leads n R v j) (sym (has-setOf n (λ k. has v k || has room k && leads n R v k) j l) ∙ e))
 
-  grow-within : (f v w : ℕ) → Closed n R room w → Within n v w → Within n (grow f n R room v) w
+  pub grow-within : (f v w : ℕ) → Closed n R room w → Within n v w → Within n (grow f n R room v) w
   unfolding grow
   grow-within zero v w c s = s
   grow-within (suc f) v w c s = grow-within f (spread n R room v) w c (spread-within v w c s)
 
-  grow-lt : (f w : ℕ) → w < 2 ^ n → grow f n R room w < 2 ^ n
+  pub grow-lt : (f w : ℕ) → w < 2 ^ n → grow f n R room w < 2 ^ n
   unfolding grow spread
   grow-lt zero w h = h
   grow-lt (suc f) w h = grow-lt f (spread n R room w) (setOf-lt n (λ j. has w j || has room j && leads n R w j))
+
+  -- a closed set that holds the start, and nothing that is not grown
+  grow-is : (start w : ℕ) → start < 2 ^ n → w < 2 ^ n → Closed n R room w → Within n start w → Within n w (grow n n R room start) → w ≡ grow n n R room start
+  grow-is start w hs hw c holds within =
+      ext n w (grow n n R room start) hw (grow-lt n start hs)
+      (λ k l. iff (has w k) (has (grow n n R room start) k) (within k l) (grow-within n start w c holds k l))
+
+  -- ---- the code
 
   -- `seen` is grown so far and `last` came in last: no other station of `seen` leads to a station of the room outside `seen`
   pub record Growing (start seen last : ℕ) : Type 0 where
     pub below : seen < 2 ^ n
     pub small : last < 2 ^ n
-    pub first : has seen start ≡ true
+    pub holds : Within n start seen
     pub part : (k : ℕ) → has last k ≡ true → has seen k ≡ true
     pub settled : (i j : ℕ) → i < n → j < n → R i j ≡ true → has room j ≡ true → has seen i ≡ true → has last i ≡ false → has seen j ≡ true
-    pub within : Within n seen (grow n n R room (2 ^ start))
+    pub within : Within n seen (grow n n R room start)
 
-  pub growing-start : (start : ℕ) → start < n → Growing start (2 ^ start) (2 ^ start)
+  pub growing-start : (start : ℕ) → start < 2 ^ n → Growing start start start
   growing-start start h =
       record {
-        below = pow-lt h;
-        small = pow-lt h;
-        first = has-self start;
+        below = h;
+        small = h;
+        holds = λ k l e. e;
         part = λ k e. e;
         settled = λ i j li lj r d e z. absurd (not-both e z);
-        within = grow-keeps n R room n (2 ^ start);
+        within = grow-keeps n R room n start;
       }
 
-  module _ {start seen last : ℕ} (g : Growing start seen last) (l : start < n) where
-    pub growing-end : last ≡ 0 → seen ≡ grow n n R room (2 ^ start)
-    growing-end z =
-        ext n seen (grow n n R room (2 ^ start)) (g .below) (grow-lt n (2 ^ start) (pow-lt l))
-        (λ k d. iff (has seen k) (has (grow n n R room (2 ^ start)) k) (g .within k d)
-        (grow-within n (2 ^ start) seen closed (pow-within n seen start (g .first)) k d))
+  module _ {start seen last : ℕ} (g : Growing start seen last) where
+    -- nothing came in last
+    pub growing-end : start < 2 ^ n → last ≡ 0 → seen ≡ grow n n R room start
+    growing-end h z = grow-is start seen h (g .below) closed (g .holds) (g .within)
       where
         closed : Closed n R room seen
-        closed i j li lj r d h = g .settled i j li lj r d h (ap (λ (w : ℕ). has w i) z ∙ has-zero i)
+        closed i j li lj r d e = g .settled i j li lj r d e (ap (λ (w : ℕ). has w i) z ∙ has-zero i)
+
+    -- the whole room came in
+    pub growing-full : start < 2 ^ n → Within n room seen → seen ≡ grow n n R room start
+    growing-full h all = grow-is start seen h (g .below) (λ i j li lj r d e. all j lj d) (g .holds) (g .within)
 
     -- the stations that come in next
     abbrev Fresh : ℕ → Type 0
@@ -81,7 +92,7 @@ module _ (n : ℕ) (R : ℕ → ℕ → Bool) (room : ℕ) where
         record {
           below = or-lt n seen next (g .below) small;
           small = small;
-          first = has-or seen next start ∙ or-l (has next start) (g .first);
+          holds = λ k l e. has-or seen next k ∙ or-l (has next k) (g .holds k l e);
           part = λ k e. has-or seen next k ∙ or-r (has seen k) e;
           settled = λ i j li lj r d e z. has-or seen next j ∙ ⊎-elim (joins i j li lj r d) (λ q. absurd (not-both q z)) (members i e);
           within = λ k d e. ⊎-elim (g .within k d) (grows k d) (members k e);
@@ -100,8 +111,49 @@ module _ (n : ℕ) (R : ℕ → ℕ → Bool) (room : ℕ) where
                 (λ q. absurd (not-both (g .settled i j li lj r d e q) f))
                 (cases (has last i))
 
-        grows : (k : ℕ) → k < n → has next k ≡ true → has (grow n n R room (2 ^ start)) k ≡ true
+        grows : (k : ℕ) → k < n → has next k ≡ true → has (grow n n R room start) k ≡ true
         grows k d e =
             let f = and-l (leads n R last k && has room k) (not (has seen k)) (sym (bits k d) ∙ e) in
             let (i, li, hi, r) = leads-elim last k (and-l (leads n R last k) (has room k) f) in
-            grown-closed n R room (2 ^ start) start l (has-self start) i k li d r (and-r (leads n R last k) (has room k) f) (g .within i li (g .part i hi))
+            grown-closed n R room start i k li d r (and-r (leads n R last k) (has room k) f) (g .within i li (g .part i hi))
+
+-- ---- less room
+
+-- a part of the room that R does not lead out of, into the room, is room enough for a start inside it
+module _ (n : ℕ) (R : ℕ → ℕ → Bool) (room rest : ℕ) (inside : Within n rest room) (kept : Closed n R room rest) where
+  grow-kept : (start : ℕ) → Within n start rest → Within n (grow n n R rest start) rest
+  grow-kept start s = grow-within n R rest n start rest (λ a b la lb r d e. d) s
+
+  pub grow-rest : (start : ℕ) → start < 2 ^ n → Within n start rest → grow n n R rest start ≡ grow n n R room start
+  grow-rest start h s =
+      grow-is n R room start (grow n n R rest start) h (grow-lt n R rest n start h)
+      (λ a b la lb r d e. grown-closed n R rest start a b la lb r (kept a b la lb r d (grow-kept start s a la e)) e)
+      (grow-keeps n R rest n start)
+      (grow-within n R rest n start (grow n n R room start)
+      (λ a b la lb r d e. grown-closed n R room start a b la lb r (inside b lb d) e) (grow-keeps n R room n start))
+
+-- ---- more stations
+
+-- n stations read as m, where the two relations are the same
+pub grow-width : (n m : ℕ) (R Q : ℕ → ℕ → Bool) (room w : ℕ) → n ≤ m → w < 2 ^ n
+    → ((i j : ℕ) → Q i j ≡ true → (i < n) × (j < n) × (R i j ≡ true)) → ((i j : ℕ) → i < n → j < n → R i j ≡ true → Q i j ≡ true)
+    → grow m m Q room w ≡ grow n n R room w
+grow-width n m R Q room w most h narrow widen = sym (grow-is m Q room w less (wide most h) (wide most small) closed holds within)
+  where
+    less : ℕ
+    less = grow n n R room w
+
+    small : less < 2 ^ n
+    small = grow-lt n R room n w h
+
+    closed : Closed m Q room less
+    closed a b _ _ r d e = let (la, lb, s) = narrow a b r in grown-closed n R room w a b la lb s d e
+
+    holds : Within m w less
+    holds k l e = grow-keeps n R room n w k (member-below n w k h e) e
+
+    within : Within m less (grow m m Q room w)
+    within k l e =
+        grow-within n R room n w (grow m m Q room w)
+        (λ a b la lb r. grown-closed m Q room w a b (lt-of-lt-of-le la most) (lt-of-lt-of-le lb most) (widen a b la lb r))
+        (λ j lj. grow-keeps m Q room m w j (lt-of-lt-of-le lj most)) k (member-below n less k small e) e

@@ -8,6 +8,7 @@ use native.Mathlib.Omega.{arith}
 use lib.Bits.{bitOr}
 use lib.Dec.{eqb}
 use lib.ListN.{length, take, set, replicate}
+use lib.Pow.{pow-lt}
 use Rattle.bitset.specs.Sets.{has, setOf}
 use Rattle.bitset.proofs.BoolLaws.{cond-elim}
 use Rattle.circuit.specs.Legs.{neighbours}
@@ -67,4 +68,4 @@ module _ (n : ℕ) (t : List ℕ) (seed : ℕ) (low : seed < n) where
     -- the stations that are not seen
     pub finding-missed : last ≡ 0 → setOf n (λ k. not (has seen k)) ≡ unreached n (levels n t seed)
     finding-missed z =
-        ap (λ (w : ℕ). setOf n (λ k. not (has w k))) (growing-end n (neighbours t) (allStations n) (g .reaching) low z) ∙ sym (unreached-grown n t seed low)
+        ap (λ (w : ℕ). setOf n (λ k. not (has w k))) (growing-end n (neighbours t) (allStations n) (g .reaching) (pow-lt low) z) ∙ sym (unreached-grown n t seed low)

@@ -10,13 +10,13 @@ use Rattle.bitset.specs.Sets.{has, any, setOf}
 use Rattle.bitset.proofs.BoolLaws.{iff, and-intro, and-l, and-r}
 use Rattle.bitset.proofs.QuantLaws.{any-intro, any-elim}
 use Rattle.bitset.proofs.HasLaws.{has-and, has-or, member-below, ext}
-use Rattle.bitset.proofs.SetLaws.{setOf-lt, has-setOf, setOf-elim, eq-setOf, has-diff}
+use Rattle.bitset.proofs.SetLaws.{setOf-lt, has-setOf, setOf-elim, eq-setOf, has-diff, word-lt, word-has}
 use Rattle.bitset.proofs.MachineLaws.{wide}
 use Rattle.bitset.specs.Upto.{row}
 use Rattle.circuit.specs.Legs.{leg, col, neighbours}
-use Rattle.circuit.proofs.LegsLaws.{row-in}
+use Rattle.circuit.proofs.LegsLaws.{row-in, leg-tableOf, tableOf-leg, neighbours-swap}
 use Rattle.separator.specs.Levels.{neighbourhood}
-use Rattle.separator.specs.inner.Reach.{Linked}
+use Rattle.separator.specs.inner.Reach.{Linked, Mutual}
 
 -- ---- neighbours
 
@@ -30,6 +30,16 @@ neighbours-of n i t h =
 
 linked-word : {n : ℕ} {t nbr : List ℕ} → Linked n t nbr → (i : ℕ) → i < n → row nbr i ≡ setOf n (neighbours t i)
 linked-word {n} {t} {nbr} d i l = ap (λ (x : List ℕ). row x i) (d .table) ∙ row-in n (neighbours t) i (d .most) l
+
+-- word i has j just where the two are neighbours
+pub linked-elim : {n : ℕ} {t nbr : List ℕ} → Linked n t nbr → (i j : ℕ) → leg nbr i j ≡ true → (i < n) × (j < n) × (neighbours t i j ≡ true)
+linked-elim {n} {t} d i j e = tableOf-leg n (neighbours t) i j (ap (λ (x : List ℕ). leg x i j) (sym (d .table)) ∙ e)
+
+pub linked-intro : {n : ℕ} {t nbr : List ℕ} → Linked n t nbr → (i j : ℕ) → i < n → j < n → neighbours t i j ≡ true → leg nbr i j ≡ true
+linked-intro {n} {t} d i j li lj e = ap (λ (x : List ℕ). leg x i j) (d .table) ∙ leg-tableOf n (neighbours t) i j (d .most) li lj ∙ e
+
+pub linked-mutual : {n : ℕ} {t nbr : List ℕ} → Linked n t nbr → Mutual nbr
+linked-mutual {t = t} d i j e = let (li, lj, q) = linked-elim d i j e in linked-intro d j i lj li (neighbours-swap t i j q)
 
 -- some station of w leads to j by the relation R
 abbrev pub leads : ℕ → (ℕ → ℕ → Bool) → ℕ → ℕ → Bool
@@ -70,15 +80,13 @@ pub neighbourhood-lt : (n : ℕ) (t : List ℕ) (w : ℕ) → neighbourhood n t 
 unfolding neighbourhood
 neighbourhood-lt n t w = setOf-lt n (leads n (neighbours t) w)
 
--- `near & room & !seen`: the neighbours of w inside the room that are not seen
-module _ (n : ℕ) (t : List ℕ) (w room seen : ℕ) {near : ℕ} (e : near ≡ neighbourhood n t w) where
-  pub fresh-lt : bitAnd (bitAnd near room) ((2 ^ 64 - 1) - seen) < 2 ^ n
-  fresh-lt = omega (arith, and-le-l (bitAnd near room) ((2 ^ 64 - 1) - seen), and-le-l near room, neighbourhood-lt n t w)
+-- `near & room & !seen`: what the stations of w lead to inside the room, and is not seen
+module _ (R : ℕ → ℕ → Bool) (w room seen : ℕ) {near : ℕ} (e : near ≡ setOf 64 (leads 64 R w)) where
+  pub fresh-lt : bitAnd (bitAnd near room) ((2 ^ 64 - 1) - seen) < 2 ^ 64
+  fresh-lt = omega (arith, and-le-l (bitAnd near room) ((2 ^ 64 - 1) - seen), and-le-l near room, word-lt 64 (leads 64 R w) e)
 
-  pub fresh-has : n ≤ 64 → seen < 2 ^ 64 → (k : ℕ) → k < n
-      → has (bitAnd (bitAnd near room) ((2 ^ 64 - 1) - seen)) k ≡ leads n (neighbours t) w k && has room k && not (has seen k)
-  unfolding neighbourhood
-  fresh-has top h k l =
-      has-diff 64 (bitAnd near room) seen k h (omega arith)
-      ∙ ap (λ (b : Bool). b && not (has seen k))
-      (has-and near room k ∙ ap (λ (b : Bool). b && has room k) (ap (λ (x : ℕ). has x k) e ∙ has-setOf n (leads n (neighbours t) w) k l))
+  pub fresh-has : seen < 2 ^ 64 → (k : ℕ) → k < 64
+      → has (bitAnd (bitAnd near room) ((2 ^ 64 - 1) - seen)) k ≡ leads 64 R w k && has room k && not (has seen k)
+  fresh-has h k l =
+      has-diff 64 (bitAnd near room) seen k h l
+      ∙ ap (λ (b : Bool). b && not (has seen k)) (has-and near room k ∙ ap (λ (b : Bool). b && has room k) (word-has 64 (leads 64 R w) e k l))

@@ -16,7 +16,7 @@ use Rattle.bitset.proofs.HasLaws.{member-below}
 use Rattle.bitset.proofs.SetLaws.{has-setOf, minus-intro, minus-elim, some-member}
 use Rattle.separator.specs.Levels.{neighbourhood, levelsFrom, levels, front, inner}
 use Rattle.separator.specs.Separates.{Separates}
-use Rattle.separator.proofs.ReachLaws.{nextLevel, next-below, next-new, from-more, from-none, Reaching, reaching-start, reaching-turn}
+use Rattle.separator.proofs.ReachLaws.{nextLevel, next-below, next-new, from-more, from-none, Reaching, seed-seen, reaching-start, reaching-turn}
 
 -- a set that is not empty has a station
 some-station : (n w : ℕ) → w < 2 ^ n → 0 < w → (k : ℕ) × (k < n) × (has w k ≡ true)
@@ -36,7 +36,7 @@ module _ (n : ℕ) (t : List ℕ) (seed : ℕ) (low : seed < n) where
       record {
         some = some-station n last (g .small) p;
         side = minus n seen last;
-        here = (seed, low, z, minus-intro n seen last seed low (g .first) z);
+        here = (seed, low, z, minus-intro n seen last seed low (seed-seen n t seed low g) z);
         there = (b, lb, is-false (has last b) (λ e. not-both (g .part b e) far), is-false (has (minus n seen last) b) (λ e. not-both (minus-elim n seen last b e .1) far));
         wall = λ a c la lc out e f.
             let m = minus-elim n seen last a f in
@@ -50,7 +50,7 @@ module _ (n : ℕ) (t : List ℕ) (seed : ℕ) (low : seed < n) where
   unfolding front
   front-parts zero seen last g z = unfold levelsFrom in tt
   front-parts (suc f) seen last g z =
-      go (front-parts f (bitOr seen next) next (reaching-turn n t seed low seen last g) (next-new n t seen last seed (g .first)))
+      go (front-parts f (bitOr seen next) next (reaching-turn n t seed low seen last g) (next-new n t seen last seed (seed-seen n t seed low g)))
     where
       next : ℕ
       next = nextLevel n t seen last
@@ -76,7 +76,7 @@ module _ (n : ℕ) (t : List ℕ) (seed : ℕ) (low : seed < n) where
       let first : ℕ = 2 ^ seed in
       let g = reaching-start n t seed low in
       subst (λ ls. Parting (inner ls)) (sym (from-more f n t first first (pow-lt low) (pow-pos seed)))
-      (front-parts f (bitOr first (nextLevel n t first first)) (nextLevel n t first first) (reaching-turn n t seed low first first g) (next-new n t first first seed (g .first)))
+      (front-parts f (bitOr first (nextLevel n t first first)) (nextLevel n t first first) (reaching-turn n t seed low first first g) (next-new n t first first seed (seed-seen n t seed low g)))
 
   -- levels 1 to m - 1
   pub inner-parts : Parting (inner (levels n t seed))

@@ -8,6 +8,7 @@ use Prim.Native.Nat.{ℕ, zero, suc, _+_, _^_, _≤_, _<_}
 use native.Mathlib.Omega.{arith}
 use lib.Bits.{bitOr}
 use lib.Count.{ones, ones-le}
+use lib.Pow.{pow-lt}
 use borrow.Author.Tests.{eq-eqb, ne-eqb}
 use Rattle.bitset.specs.Sets.{has, setOf, minus, join}
 use Rattle.bitset.proofs.BoolLaws.{clash, not-both, is-false, cases, taut1, cond-true, cond-false}
@@ -69,16 +70,20 @@ next-ones n t seen last h =
 
 -- `seen` has the stations of the levels up to `last`
 abbrev pub Reaching : ℕ → List ℕ → ℕ → ℕ → ℕ → Type 0
-Reaching n t seed seen last = Growing n (neighbours t) (allStations n) seed seen last
+Reaching n t seed seen last = Growing n (neighbours t) (allStations n) (2 ^ seed) seen last
 
 module _ (n : ℕ) (t : List ℕ) (seed : ℕ) (low : seed < n) where
+  -- the seed is seen
+  pub seed-seen : {seen last : ℕ} → Reaching n t seed seen last → has seen seed ≡ true
+  seed-seen g = g .holds seed low (has-self seed)
+
   pub reaching-start : Reaching n t seed (2 ^ seed) (2 ^ seed)
-  reaching-start = growing-start n (neighbours t) (allStations n) seed low
+  reaching-start = growing-start n (neighbours t) (allStations n) (2 ^ seed) (pow-lt low)
 
   -- the next level is what comes in next
   pub reaching-turn : (seen last : ℕ) → Reaching n t seed seen last → Reaching n t seed (bitOr seen (nextLevel n t seen last)) (nextLevel n t seen last)
   unfolding minus neighbourhood
-  reaching-turn seen last g = growing-turn n (neighbours t) (allStations n) g low (nextLevel n t seen last) (next-below n t seen last) fresh
+  reaching-turn seen last g = growing-turn n (neighbours t) (allStations n) g (nextLevel n t seen last) (next-below n t seen last) fresh
     where
       fresh : (k : ℕ) → k < n → has (nextLevel n t seen last) k ≡ leads n (neighbours t) last k && has (allStations n) k && not (has seen k)
       fresh k l =
@@ -104,7 +109,7 @@ module _ (n : ℕ) (t : List ℕ) (seed : ℕ) (low : seed < n) where
       ap (λ (ls : List ℕ). has seen k && not (has last k) || reached ls k) (from-none f n t seen last z)
       ∙ ap (λ (b : Bool). has seen k && not b || false) (ap (λ (w : ℕ). has w k) z ∙ has-zero k)
       ∙ taut1 (λ b. b && true || false) (λ b. b) refl (has seen k)
-      ∙ ap (λ (w : ℕ). has w k) (growing-end n (neighbours t) (allStations n) g low z)
+      ∙ ap (λ (w : ℕ). has w k) (growing-end n (neighbours t) (allStations n) g (pow-lt low) z)
 
   -- of a station: seen, in the last level, in the next, in a later one
   turn-bits : (a b c r : Bool) → (b ≡ true → a ≡ true) → (c ≡ true → a ≡ false) → a && not b || (b || r) ≡ (a || c) && not c || r
@@ -154,7 +159,7 @@ module _ (n : ℕ) (t : List ℕ) (seed : ℕ) (low : seed < n) where
   walked : (k : ℕ) → Joined n t 0 seed k → has grown k ≡ true
   walked k (stay f) = grow-keeps n (neighbours t) (allStations n) n (2 ^ seed) seed low (has-self seed)
   walked k (step {d = d} w e f) =
-      grown-closed n (neighbours t) (allStations n) (2 ^ seed) seed low (has-self seed) d k (walk-end w .0) (f .0) e
+      grown-closed n (neighbours t) (allStations n) (2 ^ seed) d k (walk-end w .0) (f .0) e
       (has-setOf n (λ _. true) k (f .0)) (walked d w)
 
   -- A station is in some level exactly where a path of neighbours joins the seed to it; with nothing to stay outside of, any path will do.

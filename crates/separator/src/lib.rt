@@ -3,26 +3,40 @@ mod level;
 mod reach;
 
 pub use reach::Levels;
+pub use reach::Parts;
+pub use reach::components_of;
 pub use reach::levels_from;
 pub use reach::neighbours;
 ghost use denote.Ref.{now};
 ghost use Prim.Native.Nat.{_^_, _<_, _≤_};
 ghost use Rattle.circuit.specs.inner.Tables.{Columned, TableTaken};
 ghost use Rattle.separator.specs.Level.{level};
+ghost use Rattle.separator.specs.inner.Reach.{Linked};
 
-// The rule of the level s: strikes its legs from the rows and, alike, from the columns, and answers whether the verdict is none.
-pub fn strike(rows: &mut [u64; 64], cols: &mut [u64; 64], n: usize, s: u64) -> bool
-    requires { ⌜ (n ≤ 64) × (s < 2 ^ n) × Columned n (now rows) (now cols) ⌝ }
-    ensures { λ r. ⌜ TableTaken n (level n (now (rows .entry)) s) r (now (rows .exit)) (now (cols .exit)) ⌝ }
+// The rule of the level s: strikes its legs from the rows and, alike, from the columns, and answers whether the verdict is none. `nbr` has the neighbours of the
+// table as it then is, before and after: they are gathered again only where a leg may have gone.
+pub fn strike(
+    rows: &mut [u64; 64],
+    cols: &mut [u64; 64],
+    nbr: &mut [u64; 64],
+    n: usize,
+    s: u64,
+) -> bool
+    requires { ⌜ (s < 2 ^ n) × Columned n (now rows) (now cols) × Linked n (now rows) (now nbr) ⌝ }
+    ensures { λ r. ⌜ TableTaken n (level n (now (rows .entry)) s) r (now (rows .exit)) (now (cols .exit))
+        × Linked n (now (rows .exit)) (now (nbr .exit)) ⌝ }
 {
-    let nbr = reach::neighbours(rows, cols, n);
-    let parts = reach::components_of(&nbr, bitset::full(n) & !s);
-    let part = parts.part;
-    let spares = level::spare_stations(rows, s, &part, parts.count);
+    let parts = reach::components_of(nbr, bitset::full(n) & !s);
+    let spares = level::spare_stations(rows, s, &parts.part, parts.count);
     if spares.none {
         return true;
     }
+    // every station of s may take a bare leg, out and in: no leg goes
+    if spares.out & spares.into == s {
+        return false;
+    }
     level::cut(rows, s, spares.out, spares.into);
     level::cut(cols, s, spares.into, spares.out);
+    *nbr = reach::neighbours(rows, cols, n);
     false
 }

@@ -3,16 +3,14 @@
 // are not reached: a promise speaks of any n and t with `Linked n t nbr`, words that are the neighbours of the n stations of t. Of other words nothing is
 // said.
 ghost use denote.Ref.{now};
-ghost use mathlib.Core.Bool.{true, not};
 ghost use mathlib.Core.List.{List};
 ghost use mathlib.Core.Path.{_≡_};
 ghost use Prim.Native.Nat.{ℕ, _^_, _<_, _≤_};
-ghost use Rattle.bitset.specs.Sets.{has, setOf};
-ghost use Rattle.circuit.specs.Legs.{columns, neighbours, tableOf};
+ghost use Rattle.circuit.specs.Legs.{leg, columns, neighbours, tableOf};
 ghost use Rattle.circuit.specs.inner.Tables.{Square};
 ghost use Rattle.separator.specs.Levels.{neighbourhood};
-ghost use Rattle.separator.specs.Components.{grow, components};
-ghost use Rattle.separator.specs.inner.Reach.{Linked, Listed, LevelsOf};
+ghost use Rattle.separator.specs.Components.{grow, componentsFrom};
+ghost use Rattle.separator.specs.inner.Reach.{Linked, Mutual, Listed, LevelsOf};
 
 // Level k stands at `level[k]`, for k below `count`; the other words are 0. The stations in no level are in `unreached`.
 pub struct Levels {
@@ -22,9 +20,9 @@ pub struct Levels {
 }
 
 // The components stand at the first `count` places, by rising lowest station; the other words are 0.
-pub(crate) struct Parts {
-    pub(crate) part: [u64; 64],
-    pub(crate) count: usize,
+pub struct Parts {
+    pub part: [u64; 64],
+    pub count: usize,
 }
 
 // The stations with a leg to or from each station: words beyond n are 0.
@@ -71,31 +69,32 @@ pub fn levels_from(nbr: &[u64; 64], n: usize, seed: usize) -> Levels
     }
 }
 
-// The component of `start` inside `room`: only the stations that came in last can bring in more.
-fn component(nbr: &[u64; 64], room: u64, start: usize) -> u64
-    requires { ⌜ start < 64 ⌝ }
-    ensures { λ r. ⌜ (has r start ≡ true)
-        × ((n : ℕ) (t : List ℕ) → Linked n t (now (nbr .entry)) → start < n → r ≡ grow n n (neighbours t) room (2 ^ start)) ⌝ }
+// The set `start`, grown inside `room` along the words of its stations. Only the stations that came in last can bring in more, so each word is read once; and
+// when the whole room is in, no further word is read to see that nothing more comes.
+pub(crate) fn grown(words: &[u64; 64], room: u64, start: u64) -> u64
+    ensures { λ r. ⌜ r ≡ grow 64 64 (leg (now (words .entry))) room start ⌝ }
 {
-    let mut seen = 1u64 << start;
-    let mut last = seen;
-    while last != 0 {
-        last = neighbourhood(nbr, last) & room & !seen;
+    let mut seen = start;
+    let mut last = start;
+    while room & !seen != 0 {
+        last = bitset::union_of_rows(words, last) & room & !seen;
+        if last == 0 {
+            return seen;
+        }
         seen |= last;
     }
     seen
 }
 
-// The components outside a set: `outside` is the stations that are not in it.
-pub(crate) fn components_of(nbr: &[u64; 64], outside: u64) -> Parts
-    ensures { λ r. ⌜ ((n : ℕ) (t : List ℕ) (s : ℕ) → Linked n t (now (nbr .entry)) → outside ≡ setOf n (λ k. not (has s k))
-        → Listed (components n t s) (r .part) (r .count)) ⌝ }
+// The connected groups of the stations of `outside`, by the words of their neighbours. A group is grown in the rest alone: no leg joins it to one found before.
+pub fn components_of(nbr: &[u64; 64], outside: u64) -> Parts
+    ensures { λ r. ⌜ (Mutual (now (nbr .entry)) → Listed (componentsFrom 64 64 (leg (now (nbr .entry))) outside outside) (r .part) (r .count)) ⌝ }
 {
     let mut part = [0u64; 64];
     let mut count = 0usize;
     let mut rest = outside;
     while rest != 0 {
-        let c = component(nbr, outside, u64::trailing_zeros(rest) as usize);
+        let c = grown(nbr, rest, 1u64 << u64::trailing_zeros(rest));
         part[count] = c;
         count += 1;
         rest &= !c;

@@ -1,10 +1,11 @@
 -- What finding levels and components promises: sets of the n stations of a table t, in arrays of 64 words.
 use mathlib.Core.Path.{_≡_}
+use mathlib.Core.Bool.{true}
 use mathlib.Core.List.{List}
 use Prim.Native.Nat.{ℕ, _≤_}
 use lib.ListN.{length}
 use Rattle.bitset.specs.Upto.{upto, row}
-use Rattle.circuit.specs.Legs.{neighbours, tableOf}
+use Rattle.circuit.specs.Legs.{leg, neighbours, tableOf}
 use Rattle.separator.specs.declared.reach.Levels.{Levels}
 use Rattle.separator.specs.Levels.{levels, unreached}
 
@@ -12,6 +13,10 @@ use Rattle.separator.specs.Levels.{levels, unreached}
 pub record Linked (n : ℕ) (t nbr : List ℕ) : Type 0 where
   pub most : n ≤ 64
   pub table : nbr ≡ tableOf n (neighbours t)
+
+-- each of two stations is in the word of the other, or neither is
+abbrev pub Mutual : List ℕ → Type 0
+Mutual nbr = (i j : ℕ) → leg nbr i j ≡ true → leg nbr j i ≡ true
 
 -- the first `count` words are the sets of the list, and the others are 0
 pub record Listed (ls words : List ℕ) (count : ℕ) : Type 0 where
