@@ -9,7 +9,7 @@ use Rattle.circuit.proofs.StateLaws.{stray-row}
 use Rattle.separator.proofs.LevelsLaws.{levels-taken}
 use Rattle.separator.proofs.InnerLaws.{level-below}
 use Rattle.separator.specs.Levels.{levels, inner}
-use Rattle.separator.specs.inner.Reach.{LevelsOf}
+use Rattle.separator.specs.inner.Reach.{Linked, LevelsOf}
 use Rattle.filter.specs.Pass.{passOver}
 use Rattle.filter.proofs.PassLaws.{pass-unreached, pass-over}
 use Rattle.filter.proofs.TakeLaws.{taken-as}
@@ -32,9 +32,13 @@ linked c = c .before .before
 abbrev start : tie.After-levels-from → tie.Start
 start c = linked c .before .before .before
 
+-- the neighbours are gathered
+near : (c : tie.After-levels-from) → Linked (start c .args .n) (start c .args .rows .now) (linked c .neighbours .result)
+near c = record { most = start c .pre .0; table = linked c .neighbours .ensures }
+
 -- the levels are found
 found : (c : tie.After-levels-from) → LevelsOf (start c .args .n) (start c .args .rows .now) (start c .args .seed) (c .levels-from .result)
-found c = let s = start c in c .levels-from .ensures (s .args .rows .now) (record { most = s .pre .0; table = linked c .neighbours .ensures })
+found c = c .levels-from .ensures (start c .args .rows .now) (near c)
 
 -- and taken out of the array
 taken : (c : tie.After-levels-from) → (c .levels-from .result .count ≤ 64) × (take (c .levels-from .result .count) (c .levels-from .result .level) ≡ levels (start c .args .n) (start c .args .rows .now) (start c .args .seed))
@@ -54,14 +58,14 @@ tested c = c .before
 
 take-levels-requires : tie.Need-take-levels-requires
 take-levels-requires c κs =
-    let f = tested (c .before .before .before .before) in
+    let f = tested (c .before .before .before .before .before) in
     let s = start f in
     let long : length (f .levels-from .result .level) ≡ 64 = (let ok = f .levels-from .ok in search needs) in
-    (s .pre .0, taken f .0, long, level-below (s .args .n) (s .args .rows .now) (s .args .seed) _ _ (taken f .1) (s .pre .1), s .pre .2)
+    (taken f .0, long, level-below (s .args .n) (s .args .rows .now) (s .args .seed) _ _ (taken f .1) (s .pre .1), s .pre .2, near f)
 
 returns-2 : tie.Need-returns-2
 returns-2 c =
-    let e = c .before .before .before .before .before in
+    let e = c .before .before .before .before .before .before in
     let f = tested e in
     let a = start f .args in
     let none : f .levels-from .result .unreached ≡ 0 = omega (arith, e .if1 .left) in

@@ -3,22 +3,23 @@ use borrow.Author.Needs.{needs}
 use Prim.Native.Nat.{_-_, _≤_}
 use native.Mathlib.Omega.{arith}
 use lib.ListN.{length}
+use Rattle.separator.specs.inner.Reach.{Linked}
 use Rattle.filter.proofs.TakeLaws.{Passing, passing-start, passing-none, passing-turn, passing-end}
 use Rattle.filter.proofs.passing.take_levels.Statement.{statement}
 use Rattle.filter.proofs.passing.take_levels.Tie as tie
 
 abbrev Inv-loop : tie.InvT-loop
-Inv-loop rows₀ cols₀ n limit level count k₀ rows cols k = (k ≤ 64) × Passing n limit count level rows₀ k rows cols
+Inv-loop rows₀ cols₀ nbr₀ n limit level count k₀ rows cols nbr k = (k ≤ 64) × Passing n limit count level rows₀ k rows cols × Linked n rows nbr
 
 abbrev μ-loop : tie.MeasureT-loop
-μ-loop rows₀ cols₀ n limit level count k₀ rows cols k = count - k
+μ-loop rows₀ cols₀ nbr₀ n limit level count k₀ rows cols nbr k = count - k
 
 -- the levels that are read are there
 long : (c : tie.Start Inv-loop μ-loop) → c .args .count ≤ length (c .args .level .now)
-long c = omega (arith, c .pre .1, c .pre .2)
+long c = omega (arith, c .pre .0, c .pre .1)
 
 loop-holds : tie.Need-loop-holds Inv-loop μ-loop
-loop-holds c = (omega arith, passing-start (c .args .n) (c .args .limit) (c .args .count) _ _ (long c) _ (c .pre .4))
+loop-holds c = (omega arith, passing-start (c .args .n) (c .args .limit) (c .args .count) _ _ (long c) _ (c .pre .3), c .pre .4)
 
 add-loop : tie.Need-add-loop Inv-loop μ-loop
 add-loop c = search needs
@@ -31,14 +32,14 @@ element-copy-out-take-level c = search needs
 
 take-level-requires : tie.Need-take-level-requires Inv-loop μ-loop
 take-level-requires c κs =
-    let v = c .before .before .before .before in
+    let v = c .before .before .before .before .before in
     let p = v .before .pre in
-    (p .0, p .3 (v .loop .k) (omega arith), v .loop .inv .1 .table)
+    (p .2 (v .loop .k) (omega arith), v .loop .inv .1 .table, v .loop .inv .2)
 
 returns : tie.Need-returns Inv-loop μ-loop
 returns c =
-    let v = c .before .before .before .before .before .before in
-    passing-none _ _ _ _ _ (long (v .before)) (v .loop .k) _ _ (v .loop .inv .1) (c .before .take-level .result) _ _ (omega arith) (c .before .take-level .ensures) (c .if1 .taken)
+    let v = c .before .before .before .before .before .before .before in
+    passing-none _ _ _ _ _ (long (v .before)) (v .loop .k) _ _ (v .loop .inv .1) (c .before .take-level .result) _ _ (omega arith) (c .before .take-level .ensures .0) (c .if1 .taken)
 
 add-k : tie.Need-add-k Inv-loop μ-loop
 add-k c = search needs
@@ -48,8 +49,8 @@ loop-less c = search needs
 
 loop-again : tie.Need-loop-again Inv-loop μ-loop
 loop-again c =
-    let v = c .before .before .before .before .before .before in
-    (omega arith, passing-turn _ _ _ _ _ (long (v .before)) (v .loop .k) _ _ (v .loop .inv .1) (c .before .take-level .result) _ _ (omega arith) (c .before .take-level .ensures) (c .if1 .left))
+    let v = c .before .before .before .before .before .before .before in
+    (omega arith, passing-turn _ _ _ _ _ (long (v .before)) (v .loop .k) _ _ (v .loop .inv .1) (c .before .take-level .result) _ _ (omega arith) (c .before .take-level .ensures .0) (c .if1 .left), c .before .take-level .ensures .1)
 
 returns-2 : tie.Need-returns-2 Inv-loop μ-loop
 returns-2 c =
