@@ -8,7 +8,7 @@ pub use reach::components_of;
 pub use reach::levels_from;
 pub use reach::neighbours;
 ghost use denote.Ref.{now};
-ghost use Prim.Native.Nat.{_^_, _<_, _≤_};
+ghost use Prim.Native.Nat.{_^_, _<_};
 ghost use Rattle.circuit.specs.inner.Tables.{Columned, TableTaken};
 ghost use Rattle.separator.specs.Level.{level};
 ghost use Rattle.separator.specs.inner.Reach.{Linked};
