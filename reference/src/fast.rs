@@ -6,6 +6,7 @@
 
 mod bits;
 mod chain;
+mod components;
 mod grid;
 mod lines;
 mod list;
@@ -22,6 +23,7 @@ use crate::hand::{self, Handled};
 use crate::run::Ran;
 use crate::state::{good_limit, last_place, End, WorkState};
 
+pub use self::components::components;
 pub use self::lines::report;
 pub use self::list::list_check;
 pub use self::sheet::open;

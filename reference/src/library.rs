@@ -16,7 +16,8 @@ pub const NO_STATE: u32 = 100;
 // Limits and seeds reach the library as `usize`, and none may be cut short.
 const _: () = assert!(usize::BITS == u64::BITS);
 
-/// The functions of the archive. A slice is passed as pointer and length.
+/// The functions of the archives. A slice is passed as pointer and length, an
+/// array as pointer.
 mod ffi {
     extern "C" {
         pub fn loungeegret_open(
@@ -63,6 +64,7 @@ mod ffi {
             buf_len: usize,
             length: *mut usize,
         ) -> u32;
+        pub fn measured_components(nbr: *const u64, outside: u64, part: *mut u64) -> usize;
     }
 }
 
@@ -109,6 +111,22 @@ pub mod raw {
     pub fn print(sheet: &[u8], buffer: &mut [u8], length: &mut usize) -> u32 {
         let (bytes, text) = (sheet.as_ptr(), buffer.as_mut_ptr());
         unsafe { ffi::loungeegret_print(bytes, sheet.len(), text, buffer.len(), length) }
+    }
+}
+
+/// A function from inside the proved library, to be measured by itself.
+pub mod measured {
+    use super::ffi;
+
+    /// The connected groups of the stations of `outside`, by rising lowest
+    /// station: they come first in `part`, whose other words get 0, and their
+    /// number is answered. Word i of `nbr` has the neighbours of the station of
+    /// bit i; if the words are not mutual, nothing is said but that the call ends.
+    #[inline]
+    pub fn components(nbr: &[u64; 64], outside: u64, part: &mut [u64; 64]) -> usize {
+        // SAFETY: both arrays have the 64 words that the library reads or writes
+        // and live as long as the call; the one written is borrowed mutably.
+        unsafe { ffi::measured_components(nbr.as_ptr(), outside, part.as_mut_ptr()) }
     }
 }
 

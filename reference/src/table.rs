@@ -74,6 +74,15 @@ impl LegTable {
         self.successors(i) | &self.predecessors(i)
     }
 
+    /// The words of the neighbours of all stations, as rows are.
+    pub fn neighbour_words(&self) -> Rows {
+        let mut words = [0; 64];
+        for i in self.stations() {
+            words[i - 1] = word_of(&self.neighbours(i));
+        }
+        words
+    }
+
     /// All legs, by their first station and then by their second.
     pub fn legs(&self) -> Vec<Leg> {
         self.stations()
@@ -94,6 +103,11 @@ impl LegTable {
             self.successors[*i].remove(j);
         }
     }
+}
+
+/// The word in which the bits of the stations stand.
+pub fn word_of(stations: &BTreeSet<usize>) -> u64 {
+    stations.iter().fold(0, |word, k| word | 1 << (k - 1))
 }
 
 /// The stations whose bits stand in a word.

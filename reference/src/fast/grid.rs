@@ -1,7 +1,8 @@
 //! The steps of a run over rows and columns kept side by side.
 
-use super::bits::{all_stations, bit, indices, is_single, lowest, transposed};
+use super::bits::{all_stations, bit, indices, is_single, transposed};
 use super::chain::Chains;
+use super::components::grow;
 use super::matching::spare_stations;
 use super::sweep::sweep_rows;
 use super::Outcome;
@@ -185,22 +186,17 @@ impl Grid {
     /// The component of the lowest station of `rest`, staying inside `rest`.
     #[inline]
     fn flood(&self, rest: u64) -> Flood {
-        let mut flood = Flood {
-            component: rest & rest.wrapping_neg(),
-            entered_from: 0,
-            leads_to: 0,
-        };
-        let mut waiting = flood.component;
-        while waiting != 0 {
-            let i = lowest(waiting);
-            waiting &= waiting - 1;
-            flood.entered_from |= self.columns[i];
-            flood.leads_to |= self.rows[i];
-            let found = self.neighbours(i) & rest & !flood.component;
-            flood.component |= found;
-            waiting |= found;
+        let (mut entered_from, mut leads_to) = (0, 0);
+        let component = grow(rest, |i| {
+            entered_from |= self.columns[i];
+            leads_to |= self.rows[i];
+            self.neighbours(i)
+        });
+        Flood {
+            component,
+            entered_from,
+            leads_to,
         }
-        flood
     }
 
     /// Keeps a leg inside the separator only if both its ends are spare.

@@ -1,15 +1,19 @@
 //! What the C interface promises beyond the calls themselves: states of too few
 //! or too many words, marks and ends that are none, and the whole program in one
-//! call.
+//! call. Then the components alone, as they are measured.
 
-use super::{raw, NO_STATE};
+use std::collections::BTreeSet;
+
+use super::{measured, raw, NO_STATE};
 use crate::calls::Fast;
 use crate::card;
-use crate::gen::{ring, Sheet};
+use crate::gen::{any_table, ring, wide_islands, Family, Sheet, Xorshift};
 use crate::paper::{NINE_LEGS, NINE_LEGS_OUTPUT};
 use crate::program::{self, PRINT_MOST};
-use crate::state::WorkState;
+use crate::state::{Rows, WorkState};
+use crate::table::{stations_of, word_of, LegTable};
 use crate::words::{to_words, Words, END, MARK, STATE_WORDS};
+use crate::{fast, graph};
 
 /// What a call may write, filled with values that no call gives.
 #[derive(Clone, Debug, PartialEq, Eq)]
@@ -196,4 +200,95 @@ fn a_refused_sheet_is_printed_too() {
     assert_prints(&[3, 0x0C], "refused 3 at 1\n");
     let longer = [Sheet::longest().bytes(), vec![0]].concat();
     assert_prints(&longer, "refused 5 at 1153\n");
+}
+
+/// Finds the components of the stations of a word and says how many.
+type Components = fn(&Rows, u64, &mut Rows) -> usize;
+
+/// Each with what its words hold before: the library writes all of them, the
+/// fast calls only those of components.
+const TESTED: [(Components, u64); 2] = [(measured::components, u64::MAX), (fast::components, 0)];
+
+/// The levels from every seed, some sets of three densities, no station and all
+/// of them.
+fn sets_to_leave_out(rng: &mut Xorshift, table: &LegTable, all: u64) -> BTreeSet<u64> {
+    let levels = table.stations().flat_map(|seed| graph::levels(table, seed));
+    let mut sets: BTreeSet<u64> = levels.map(|level| word_of(&level)).collect();
+    sets.extend([0, all]);
+    for _ in 0..4 {
+        let (half, other) = (rng.word(), rng.word());
+        sets.extend([half & other, half, half | other].map(|set| set & all));
+    }
+    sets
+}
+
+/// Comparisons by what is found: no component, one, several.
+type Compared = [usize; 3];
+
+/// Both beside the plain components, for each set to leave out.
+fn compare_components(rng: &mut Xorshift, table: &LegTable, compared: &mut Compared) {
+    let all = u64::MAX >> (64 - table.n());
+    let neighbours = table.neighbour_words();
+    for set in sets_to_leave_out(rng, table, all) {
+        let plain = graph::components(table, &stations_of(set));
+        let mut words = [0; 64];
+        for (word, component) in words.iter_mut().zip(&plain) {
+            *word = word_of(component);
+        }
+        for (components, before) in TESTED {
+            let mut part = [before; 64];
+            let count = components(&neighbours, all & !set, &mut part);
+            assert_eq!((count, part), (plain.len(), words));
+        }
+        compared[plain.len().min(2)] += 1;
+    }
+}
+
+fn drawn_table(rng: &mut Xorshift, n: usize) -> LegTable {
+    match rng.below(5) {
+        0 => wide_islands(rng, n),
+        _ => any_table(rng, n),
+    }
+}
+
+#[test]
+fn components_below_64_stations_are_the_plain_ones() {
+    let mut rng = Xorshift::new(31);
+    let mut compared = [0; 3];
+    for n in 2..64 {
+        for _ in 0..1 + 64 / n {
+            let table = drawn_table(&mut rng, n);
+            compare_components(&mut rng, &table, &mut compared);
+        }
+    }
+    for n in 2..32 {
+        compare_components(&mut rng, &ring(n), &mut compared);
+    }
+    let [none, one, several] = compared;
+    assert!(none > 250 && one > 6_000 && several > 20_000);
+}
+
+#[test]
+fn components_of_64_stations_are_the_plain_ones() {
+    let mut rng = Xorshift::new(32);
+    let mut compared = [0; 3];
+    compare_components(&mut rng, &ring(64), &mut compared);
+    for family in Family::FOR_PASSES.into_iter().chain(Family::FOR_CHAINS) {
+        let table = family.table(&mut rng, 64);
+        compare_components(&mut rng, &table, &mut compared);
+    }
+    let [none, one, several] = compared;
+    assert!(none > 10 && one > 1_000 && several > 5_000);
+}
+
+/// Of such words nothing else is said, so nothing is compared.
+#[test]
+fn the_measured_call_ends_on_words_that_are_not_mutual() {
+    let mut rng = Xorshift::new(33);
+    for _ in 0..10_000 {
+        // Each word more halves the neighbours.
+        let words = rng.between(1, 6);
+        let nbr = [(); 64].map(|_| (0..words).fold(u64::MAX, |word, _| word & rng.word()));
+        measured::components(&nbr, rng.word(), &mut [0; 64]);
+    }
 }

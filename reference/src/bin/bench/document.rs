@@ -4,6 +4,7 @@ use std::fs;
 
 use reference::fast;
 
+use crate::components;
 use crate::shapes::{Input, Inputs};
 use crate::share::Share;
 use crate::times::{Results, Row, Times};
@@ -16,6 +17,7 @@ The proved library beside `reference/src/fast`, a hand-optimized Rust version ov
 
 ```
 rt staticlib loungeegret
+rt staticlib measured
 cargo run --release --offline --features library --bin bench --manifest-path reference/Cargo.toml > docs/BENCHMARKS.md
 ```
 ";
@@ -24,17 +26,27 @@ const NOTES: &str = "\
 - Both get the state in 69 lent words; the Rust version loads it from there and stores it back, and that is part of its time.
 - The limit is 64. A run goes on until it is stable: only tables with this end are taken. The sheets that are opened have next sets, previous sets and fixed fields.
 - Before each repetition the words are copied in afresh, outside the time taken. Within it the caller clears no buffer; what a call clears of its own working space is part of its time, on both sides.
-- A band has its stations in a line, with legs one or two places on and one place back, and the round that goes up by the odd places and down by the even ones. A run strikes few of its legs in each of many cycles. A plain ring has one round and no other leg. The stations of both are numbered at random.";
+- A band has its stations in a line, with legs one or two places on and one place back, and the round that goes up by the odd places and down by the even ones. A run strikes few of its legs in each of many cycles. A plain ring has one round and no other leg. The stations of both are numbered at random.
+- Components are timed by themselves: all those outside one inner level, found by the function of `libmeasured.a` and by the loop that the pass of the Rust version uses. The words of the neighbours are gathered before, outside the time taken. A repetition goes over all inner levels from all seeds of a table, and over few of them as often as needed for 1,000 calls. The proved function writes all 64 words lent for components, the Rust version only those of the components it finds.";
 
-pub fn print(shapes: &[Inputs], results: &[Results], shares: &[Share]) {
+/// Times of the proved library and of the Rust version, for each of the sizes.
+type Pairs = [(f64, f64); SIZES.len()];
+
+pub fn print(
+    shapes: &[Inputs],
+    results: &[Results],
+    components: &[components::Row],
+    shares: &[Share],
+) {
     println!("{HEAD}");
     println!("on {}.\n", machine());
-    println!("- A time is the median of {REPETITIONS} repetitions, and the mean over {TABLES} tables; for a pass also over all seeds.");
+    println!("- A time is the median of {REPETITIONS} repetitions, and the mean over {TABLES} tables; for a pass also over all seeds, for components over all inner levels from all seeds.");
     println!("{NOTES}");
     print_summary(results);
     for call in results {
         print_times(call);
     }
+    print_components(components);
     print_runs(shapes);
     print_shares(shares);
     println!("\n## Highest ratios\n");
@@ -84,29 +96,64 @@ fn range_cell(call: &Results) -> String {
 }
 
 fn print_times(call: &Results) {
-    let mut heads: Vec<String> = SIZES.map(|n| format!("{n} stations")).into();
-    heads.push("growth 16 to 64".into());
     println!("\n## {}\n", capital(call.call.name()));
     println!("Time per call of the proved library / of the Rust version = ratio.\n");
-    print_head("tables", &heads);
+    print_head("tables", &pair_heads());
+    let pair = |times: &Times| (times.proved, times.lent);
     for row in &call.rows {
-        let cell = |times: &Times| {
-            let (proved, lent) = (unit(times.proved), unit(times.lent));
-            format!("{proved} / {lent} = {:.2}", times.ratio())
-        };
-        let mut cells: Vec<String> = row.by_size.iter().map(cell).collect();
-        let [_, from, _, to] = &row.by_size;
-        let growth = [to.proved / from.proved, to.lent / from.lent];
-        cells.push(format!("{:.1} / {:.1}", growth[0], growth[1]));
-        print_row(row.shape, &cells);
+        print_pairs(row.shape, row.by_size.each_ref().map(pair));
     }
+}
+
+/// The inner levels of a pass, and the times for one of them.
+fn print_components(rows: &[components::Row]) {
+    println!("\n## Components\n");
+    println!(
+        "Inner levels of a pass, the mean over all seeds. Tables without any have no times.\n"
+    );
+    print_head("tables", &size_heads());
+    for row in rows {
+        let levels = row.by_size.each_ref().map(|times| times.levels);
+        print_row(row.shape, &levels.map(levels_cell));
+    }
+    println!("\nTime per call of the proved library / of the Rust version = ratio. A call finds all components outside one inner level.\n");
+    print_head("tables", &pair_heads());
+    let pair = |times: &components::Times| (times.proved, times.rust);
+    for row in rows.iter().filter(|row| row.has_times()) {
+        print_pairs(row.shape, row.by_size.each_ref().map(pair));
+    }
+}
+
+fn levels_cell(levels: f64) -> String {
+    if levels > 0.0 {
+        format!("{levels:.1}")
+    } else {
+        "–".into()
+    }
+}
+
+fn size_heads() -> [String; SIZES.len()] {
+    SIZES.map(|n| format!("{n} stations"))
+}
+
+fn pair_heads() -> Vec<String> {
+    let mut heads: Vec<String> = size_heads().into();
+    heads.push("growth 16 to 64".into());
+    heads
+}
+
+fn print_pairs(shape: &str, pairs: Pairs) {
+    let cell = |(proved, rust)| format!("{} / {} = {:.2}", unit(proved), unit(rust), proved / rust);
+    let mut cells: Vec<String> = pairs.map(cell).into();
+    let [_, from, _, to] = pairs;
+    cells.push(format!("{:.1} / {:.1}", to.0 / from.0, to.1 / from.1));
+    print_row(shape, &cells);
 }
 
 /// What the timed runs do: steps and removed legs.
 fn print_runs(shapes: &[Inputs]) {
-    let heads = SIZES.map(|n| format!("{n} stations"));
     println!("\n## Steps of a whole run, and legs that it removes of all\n");
-    print_head("tables", &heads);
+    print_head("tables", &size_heads());
     for shape in shapes {
         let cells = shape.by_size.each_ref().map(|inputs| run_cell(inputs));
         print_row(shape.name, &cells);

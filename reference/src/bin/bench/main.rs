@@ -1,6 +1,7 @@
 //! Times the proved library beside the fast calls, in one process and on the
 //! same tables, and prints `docs/BENCHMARKS.md`.
 
+mod components;
 mod document;
 mod shapes;
 mod share;
@@ -16,5 +17,6 @@ fn main() {
     let shapes = shapes::ALL.map(shapes::Shape::inputs);
     let results = times::Timed::ALL.map(|call| times::Results::of(call, &shapes));
     let shares: Vec<_> = shapes.iter().map(share::Share::of).collect();
-    document::print(&shapes, &results, &shares);
+    let components: Vec<_> = shapes.iter().map(components::Row::of).collect();
+    document::print(&shapes, &results, &components, &shares);
 }

@@ -118,16 +118,20 @@ fn time<S: Side>(call: Timed, input: &Input) -> f64 {
 /// The median time of a call. A repetition makes `count` calls, each on a copy
 /// of the state of its own.
 pub fn median<S: Side>(state: &S::State, count: usize, call: impl Fn(usize, &mut S::State)) -> f64 {
-    let mut times = [0.0; REPETITIONS];
     let mut copies = vec![state.clone(); count];
-    for time in &mut times {
+    median_of(|| {
         copies.fill(state.clone());
         let start = Instant::now();
         for (at, copy) in copies.iter_mut().enumerate() {
             call(at, black_box(copy));
         }
-        *time = start.elapsed().as_nanos() as f64 / count as f64;
-    }
+        start.elapsed().as_nanos() as f64 / count as f64
+    })
+}
+
+/// The median of what the repetitions tell.
+pub fn median_of(mut repetition: impl FnMut() -> f64) -> f64 {
+    let mut times = [(); REPETITIONS].map(|_| repetition());
     times.sort_by(f64::total_cmp);
     times[REPETITIONS / 2]
 }
