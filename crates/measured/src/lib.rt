@@ -9,8 +9,5 @@ ghost use Rattle.separator.specs.inner.Reach.{Mutual, Listed};
 pub extern "C" fn measured_components(nbr: &[u64; 64], outside: u64, part: &mut [u64; 64]) -> usize
     ensures { λ r. ⌜ (Mutual (now (nbr .entry)) → Listed (componentsFrom 64 64 (leg (now (nbr .entry))) outside outside) (now (part .exit)) r) ⌝ }
 {
-    let found = separator::components_of(nbr, outside);
-    let words = found.part;
-    *part = words;
-    found.count
+    separator::components_of(nbr, outside, part)
 }

@@ -11,6 +11,7 @@ pub mod MarkLaws
 pub mod LevelLaws
 pub mod NeighbourLaws
 pub mod GrowLaws
+pub mod RoomLaws
 pub mod ArrayLaws
 pub mod ReachLaws
 pub mod PartingLaws

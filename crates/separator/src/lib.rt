@@ -3,7 +3,6 @@ mod level;
 mod reach;
 
 pub use reach::Levels;
-pub use reach::Parts;
 pub use reach::components_of;
 pub use reach::levels_from;
 pub use reach::neighbours;
@@ -26,8 +25,9 @@ pub fn strike(
     ensures { λ r. ⌜ TableTaken n (level n (now (rows .entry)) s) r (now (rows .exit)) (now (cols .exit))
         × Linked n (now (rows .exit)) (now (nbr .exit)) ⌝ }
 {
-    let parts = reach::components_of(nbr, bitset::full(n) & !s);
-    let spares = level::spare_stations(rows, s, &parts.part, parts.count);
+    let mut parts = [0u64; 64];
+    let count = reach::components_of(nbr, bitset::full(n) & !s, &mut parts);
+    let spares = level::spare_stations(rows, s, &parts, count);
     if spares.none {
         return true;
     }

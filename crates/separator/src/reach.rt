@@ -19,12 +19,6 @@ pub struct Levels {
     pub unreached: u64,
 }
 
-// The components stand at the first `count` places, by rising lowest station; the other words are 0.
-pub struct Parts {
-    pub part: [u64; 64],
-    pub count: usize,
-}
-
 // The stations with a leg to or from each station: words beyond n are 0.
 pub fn neighbours(rows: &[u64; 64], cols: &[u64; 64], n: usize) -> [u64; 64]
     requires { ⌜ (n ≤ 64) × Square n (now rows) × (now cols ≡ columns n (now rows)) ⌝ }
@@ -70,27 +64,28 @@ pub fn levels_from(nbr: &[u64; 64], n: usize, seed: usize) -> Levels
 }
 
 // The set `start`, grown inside `room` along the words of its stations. Only the stations that came in last can bring in more, so each word is read once; and
-// when the whole room is in, no further word is read to see that nothing more comes.
+// where nothing is left of the room, no further word is read.
 pub(crate) fn grown(words: &[u64; 64], room: u64, start: u64) -> u64
     ensures { λ r. ⌜ r ≡ grow 64 64 (leg (now (words .entry))) room start ⌝ }
 {
-    let mut seen = start;
+    let mut left = room & !start;
     let mut last = start;
-    while room & !seen != 0 {
-        last = bitset::union_of_rows(words, last) & room & !seen;
+    while left != 0 {
+        last = bitset::union_of_rows(words, last) & left;
         if last == 0 {
-            return seen;
+            break;
         }
-        seen |= last;
+        left &= !last;
     }
-    seen
+    start | (room & !left)
 }
 
-// The connected groups of the stations of `outside`, by the words of their neighbours. A group is grown in the rest alone: no leg joins it to one found before.
-pub fn components_of(nbr: &[u64; 64], outside: u64) -> Parts
-    ensures { λ r. ⌜ (Mutual (now (nbr .entry)) → Listed (componentsFrom 64 64 (leg (now (nbr .entry))) outside outside) (r .part) (r .count)) ⌝ }
+// The connected groups of the stations of `outside`, by the words of their neighbours. They come first in `part`, by rising lowest station, and the other words
+// are 0; answers how many there are. A group is grown in the rest alone, since no leg joins it to one found before.
+pub fn components_of(nbr: &[u64; 64], outside: u64, part: &mut [u64; 64]) -> usize
+    ensures { λ r. ⌜ (Mutual (now (nbr .entry)) → Listed (componentsFrom 64 64 (leg (now (nbr .entry))) outside outside) (now (part .exit)) r) ⌝ }
 {
-    let mut part = [0u64; 64];
+    *part = [0u64; 64];
     let mut count = 0usize;
     let mut rest = outside;
     while rest != 0 {
@@ -99,5 +94,5 @@ pub fn components_of(nbr: &[u64; 64], outside: u64) -> Parts
         count += 1;
         rest &= !c;
     }
-    Parts { part, count }
+    count
 }

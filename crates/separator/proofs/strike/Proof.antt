@@ -30,10 +30,10 @@ use Rattle.separator.proofs.strike.Tie as tie
 -- ---- positions in the code, each by the one before it: a statement more changes one line
 
 abbrev start : tie.After-components-of → tie.Start
-start c = c .before .before .before
+start c = c .before .before .before .before
 
 abbrev parts : tie.After-spare-stations → tie.After-components-of
-parts c = c .before .before .before .before
+parts c = c .before .before .before
 
 abbrev passed : tie.Else1 → tie.After-spare-stations
 passed c = c .before
@@ -52,13 +52,13 @@ entry c = start (parts c)
 -- the components of the level
 listed : (c : tie.After-components-of)
     → let a = start c .args in
-    Listed (components (a .n) (now (a .rows)) (a .s)) (c .components-of .result .part) (c .components-of .result .count)
+    Listed (components (a .n) (now (a .rows)) (a .s)) (c .components-of .last .1 .1 .0) (c .components-of .result)
 listed c =
     let p = start c .pre in
     let a = start c .args in
-    let all = c .before .full .result in
-    let out = full-without (p .2 .most) (a .s) all _ (c .before .full .ensures) (diff-setOf 64 all (a .s) (c .before .full .ok) (wide (p .2 .most) (p .0))) in
-    subst (λ (l : List ℕ). Listed l (c .components-of .result .part) (c .components-of .result .count))
+    let all = c .before .before .full .result in
+    let out = full-without (p .2 .most) (a .s) all _ (c .before .before .full .ensures) (diff-setOf 64 all (a .s) (c .before .before .full .ok) (wide (p .2 .most) (p .0))) in
+    subst (λ (l : List ℕ). Listed l (c .components-of .last .1 .1 .0) (c .components-of .result))
     (ap (λ (w : ℕ). componentsFrom 64 64 (leg (now (a .nbr))) w w) out ∙ components-linked (a .s) (p .2))
     (c .components-of .ensures (linked-mutual (p .2)))
 
@@ -109,7 +109,7 @@ components-of-requires c κs = search needs
 
 spare-stations-requires : tie.Need-spare-stations-requires
 spare-stations-requires c κs =
-    let f = c .before .before .before in
+    let f = c .before .before in
     let a = start f .args in
     omega (arith, listed f .many, components-most (a .n) (now (a .rows)) (a .s), start f .pre .2 .most)
 

@@ -29,6 +29,9 @@ Inv-loop nbr outside part₀ count₀ rest₀ part count rest =
 abbrev μ-loop : tie.MeasureT-loop
 μ-loop nbr outside part₀ count₀ rest₀ part count rest = ones rest
 
+abbrev entry : tie.After-grown Inv-loop μ-loop → tie.Start Inv-loop μ-loop
+entry c = c .before .before .before .before
+
 low : (c : tie.In-loop Inv-loop μ-loop) → Least 64 (c .before .loop .rest) (trailingZeros 64 (c .before .loop .rest))
 low c = trailing-least 64 (c .before .loop .rest) (omega arith) (c .before .loop .inv .1)
 
@@ -40,8 +43,9 @@ free c =
 
 loop-holds : tie.Need-loop-holds Inv-loop μ-loop
 loop-holds c =
-    let fits = c .fits .outside .fits in
-    (refl, fits, omega (arith, ones-le 64 (c .args .outside) fits), λ d. listing-start 64 (leg (now (c .args .nbr))) (c .args .outside) fits)
+    let s = c .before in
+    let fits = s .fits .outside .fits in
+    (refl, fits, omega (arith, ones-le 64 (s .args .outside) fits), λ d. listing-start 64 (leg (now (s .args .nbr))) (s .args .outside) fits)
 
 cast-grown : tie.Need-cast-grown Inv-loop μ-loop
 cast-grown c = omega (arith, low c .below)
@@ -55,16 +59,16 @@ grown-requires c κs = search needs
 -- the component is grown in the rest from its least station
 grown : (c : tie.After-grown Inv-loop μ-loop)
     → let l = c .before .before .loop in
-    c .grown .result ≡ grow 64 64 (leg (now (c .before .before .before .args .nbr))) (l .rest) (2 ^ trailingZeros 64 (l .rest))
+    c .grown .result ≡ grow 64 64 (leg (now (entry c .args .nbr))) (l .rest) (2 ^ trailingZeros 64 (l .rest))
 grown c =
     let l = c .before .before .loop in
-    c .grown .ensures ∙ ap (grow 64 64 (leg (now (c .before .before .before .args .nbr))) (l .rest)) (shl-one 64 (trailingZeros 64 (l .rest)) (low (c .before) .below))
+    c .grown .ensures ∙ ap (grow 64 64 (leg (now (entry c .args .nbr))) (l .rest)) (shl-one 64 (trailingZeros 64 (l .rest)) (low (c .before) .below))
 
 mul-part : tie.Need-mul-part Inv-loop μ-loop
 mul-part c = omega (arith, free (c .before))
 
-array-write-part : tie.Need-array-write-part Inv-loop μ-loop
-array-write-part c = free (c .before)
+element-write-part : tie.Need-element-write-part Inv-loop μ-loop
+element-write-part c = free (c .before)
 
 add-count : tie.Need-add-count Inv-loop μ-loop
 add-count c = omega (arith, free (c .before))
@@ -77,7 +81,7 @@ less c =
     let z = low (c .before) in
     let k : ℕ = trailingZeros 64 (l .rest) in
     ones-less 64 (l .rest) (c .grown .result) k (l .inv .1) (c .grown .ok) (z .below) (z .member)
-    (ap (λ (w : ℕ). has w k) (grown c) ∙ grow-keeps 64 (leg (now (c .before .before .before .args .nbr))) (l .rest) 64 (2 ^ k) k (z .below) (has-self k))
+    (ap (λ (w : ℕ). has w k) (grown c) ∙ grow-keeps 64 (leg (now (entry c .args .nbr))) (l .rest) 64 (2 ^ k) k (z .below) (has-self k))
 
 loop-less : tie.Need-loop-less Inv-loop μ-loop
 loop-less c = less c
@@ -85,7 +89,7 @@ loop-less c = less c
 loop-again : tie.Need-loop-again Inv-loop μ-loop
 loop-again c =
     let l = c .before .before .loop in
-    let a = c .before .before .before .args in
+    let a = entry c .args in
     let r : ℕ = c .grown .result in (
       length-set (l .part) (l .count) _ ∙ l .inv .0,
       omega (arith, and-le-l (l .rest) ((2 ^ 64 - 1) - r), l .inv .1),
@@ -96,7 +100,7 @@ loop-again c =
 returns : tie.Need-returns Inv-loop μ-loop
 returns c =
     let l = c .before .loop in
-    let a = c .before .before .args in
+    let a = c .before .before .before .args in
     λ d. listing-end 64 (leg (now (a .nbr))) (a .outside) (l .inv .3 d) (c .loop-test .left) (omega arith)
 
 pub components-of-spec : {M : Type 1} → statement M
@@ -110,7 +114,7 @@ components-of-spec =
     shl-grown
     grown-requires
     mul-part
-    array-write-part
+    element-write-part
     add-count
     loop-less
     loop-again
