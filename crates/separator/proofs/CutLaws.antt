@@ -15,7 +15,7 @@ use lib.Seq.{ext-getD, getD-set-same, getD-set-other}
 use borrow.Author.Tests.{eqb-true, eqb-false, not-true}
 use Rattle.bitset.specs.Sets.{has, setOf}
 use Rattle.bitset.specs.Upto.{row}
-use Rattle.bitset.proofs.BoolLaws.{iff, not-both, is-false, cases, and-intro, and-l, and-r, cond-true, cond-false, cond-elim, taut2, taut3}
+use Rattle.bitset.proofs.BoolLaws.{iff, cases, and-intro, and-l, and-r, cond-true, cond-false, cond-elim, taut2, taut3}
 use Rattle.bitset.proofs.HasLaws.{has-zero, has-and, has-or, has-not, ext}
 use Rattle.bitset.proofs.SetLaws.{has-setOf, setOf-lt, setOf-above, eq-setOf, has-diff}
 use Rattle.bitset.proofs.QuantLaws.{below?}
@@ -169,27 +169,6 @@ module _ (n : ℕ) (t : List ℕ) (most : n ≤ 64) (clean : stray n t ≡ false
           let f = tableOf-leg n stays i j (unfold without in e) in
           let on = and-l (leg t i j) (not (goes i j)) (f .2) in
           cut-leg C i j li lj ∙ and-intro on (ap not (sym (same i j (f .0) (f .1) on)) ∙ and-r (leg t i j) (not (goes i j)) (f .2)))
-
--- where every station of s is in both sets, the cut takes nothing
-pub cut-none : (s out into : ℕ) (t : List ℕ) → length t ≡ 64 → ((k : ℕ) → k < 64 → row t k < 2 ^ 64) → bitAnd out into ≡ s → Cut s out into t t
-cut-none s out into t len fits e =
-    record {
-      size = len;
-      word = λ k l.
-          ext 64 (row t k) (cutRow s out into k (row t k)) (fits k l) (cut-lt s out into k (row t k) (fits k l))
-          (λ j lj. sym (cut-has s out into k (row t k) j lj ∙ ap (λ (x : Bool). has (row t k) j && not x) (none k j) ∙ and-true (has (row t k) j)));
-    }
-  where
-    both : (k : ℕ) → has s k ≡ true → has out k && has into k ≡ true
-    both k f = sym (has-and out into k) ∙ ap (λ (w : ℕ). has w k) e ∙ f
-
-    none : (k j : ℕ) → cuts s out into k j ≡ false
-    none k j =
-        is-false (cuts s out into k j) (λ q.
-        let f = and-l (has s k && has s j) (not (has out k && has into j)) q in
-        not-both
-        (and-intro (and-l (has out k) (has into k) (both k (and-l (has s k) (has s j) f))) (and-r (has out j) (has into j) (both j (and-r (has s k) (has s j) f))))
-        (not-true (has out k && has into j) (and-r (has s k && has s j) (not (has out k && has into j)) q)))
 
 -- the columns, cut with the roles of `out` and `into` swapped, are the columns of the rows that are left
 pub cut-cols : {s out into : ℕ} {t u v : List ℕ} (n : ℕ) → n ≤ 64 → Cut s out into t u → Cut s into out (columns n t) v

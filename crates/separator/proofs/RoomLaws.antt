@@ -7,7 +7,7 @@ use lib.Bits.{bitAnd, bitOr, and-le-l, or-lt, or-zero-r}
 use lib.Count.{ones, trailingZeros}
 use Rattle.bitset.specs.Sets.{has, setOf}
 use Rattle.bitset.proofs.BoolLaws.{clash, and-intro, and-l, and-r, or-r, taut2, taut3}
-use Rattle.bitset.proofs.HasLaws.{has-zero, has-and, has-or, member-below, ext}
+use Rattle.bitset.proofs.HasLaws.{has-zero, has-and, has-or, ext}
 use Rattle.bitset.proofs.SetLaws.{has-diff, word-lt, word-has}
 use Rattle.bitset.proofs.OnesLaws.{ones-less}
 use Rattle.bitset.proofs.LeastLaws.{trailing-least}

@@ -148,15 +148,21 @@ fn cut_word(w: u64, s: u64, out: u64, into: u64, i: usize) -> u64
     }
 }
 
-// Cuts the word of every station of s. The rows and the columns of a table stay those of one table if the columns are cut with `out` and `into` swapped.
-pub(crate) fn cut(words: &mut [u64; 64], s: u64, out: u64, into: u64)
+// Cuts the word of every station of s, and answers whether a word is another one. The rows and the columns of a table stay those of one table if the columns are
+// cut with `out` and `into` swapped.
+pub(crate) fn cut(words: &mut [u64; 64], s: u64, out: u64, into: u64) -> bool
     requires { ⌜ length (now words) ≡ 64 ⌝ }
-    ensures { λ _. ⌜ Cut s out into (now (words .entry)) (now (words .exit)) ⌝ }
+    ensures { λ r. ⌜ Cut s out into (now (words .entry)) (now (words .exit)) × (r ≡ false → now (words .exit) ≡ now (words .entry)) ⌝ }
 {
     let mut rest = s;
+    let mut struck = false;
     while rest != 0 {
         let i = u64::trailing_zeros(rest) as usize;
-        words[i] = cut_word(words[i], s, out, into, i);
+        let word = words[i];
+        let left = cut_word(word, s, out, into, i);
+        struck = struck | (left != word);
+        words[i] = left;
         rest &= rest - 1;
     }
+    struck
 }

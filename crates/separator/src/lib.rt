@@ -13,7 +13,7 @@ ghost use Rattle.separator.specs.Level.{level};
 ghost use Rattle.separator.specs.inner.Reach.{Linked};
 
 // The rule of the level s: strikes its legs from the rows and, alike, from the columns, and answers whether the verdict is none. `nbr` has the neighbours of the
-// table as it then is, before and after: they are gathered again only where a leg may have gone.
+// table as it then is, before and after: they are gathered again only where a leg went.
 pub fn strike(
     rows: &mut [u64; 64],
     cols: &mut [u64; 64],
@@ -31,11 +31,10 @@ pub fn strike(
     if spares.none {
         return true;
     }
-    // every station of s may take a bare leg, out and in: no leg goes
-    if spares.out & spares.into == s {
+    let struck = level::cut(rows, s, spares.out, spares.into);
+    if !struck {
         return false;
     }
-    level::cut(rows, s, spares.out, spares.into);
     level::cut(cols, s, spares.into, spares.out);
     *nbr = reach::neighbours(rows, cols, n);
     false

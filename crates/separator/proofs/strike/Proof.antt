@@ -7,6 +7,7 @@ use mathlib.Core.List.{List}
 use Prim.Native.Nat.{ℕ}
 use native.Mathlib.Omega.{arith}
 use lib.ListN.{length}
+use borrow.Author.Tests.{not-true}
 use Rattle.bitset.proofs.SetLaws.{diff-setOf}
 use Rattle.bitset.proofs.MachineLaws.{wide, full-without}
 use Rattle.bitset.proofs.UptoLaws.{length-upto}
@@ -17,12 +18,11 @@ use Rattle.circuit.specs.inner.Tables.{TableTaken}
 use Rattle.circuit.proofs.StateLaws.{stray-row}
 use Rattle.separator.specs.Components.{componentsFrom, components}
 use Rattle.separator.specs.Level.{level}
-use Rattle.separator.specs.inner.Reach.{Listed}
+use Rattle.separator.specs.inner.Reach.{Linked, Listed}
 use Rattle.separator.specs.inner.Spares.{SparesOf, Cut}
 use Rattle.separator.proofs.NeighbourLaws.{linked-mutual}
 use Rattle.separator.proofs.PartLaws.{components-most, components-linked}
-use Rattle.separator.proofs.CleanLaws.{row-fits}
-use Rattle.separator.proofs.CutLaws.{cut-none, cut-cols}
+use Rattle.separator.proofs.CutLaws.{cut-cols}
 use Rattle.separator.proofs.ExactLaws.{level-none, level-leaves, level-clean}
 use Rattle.separator.proofs.strike.Statement.{statement}
 use Rattle.separator.proofs.strike.Tie as tie
@@ -38,11 +38,11 @@ parts c = c .before .before .before
 abbrev passed : tie.Else1 → tie.After-spare-stations
 passed c = c .before
 
-abbrev going : tie.Else2 → tie.Else1
+abbrev going : tie.After-cut → tie.Else1
 going c = c .before .before
 
-abbrev shortened : tie.After-cut2 → tie.Else2
-shortened c = c .before .before .before .before
+abbrev shortened : tie.After-cut2 → tie.After-cut
+shortened c = c .before .before .before
 
 abbrev entry : tie.After-spare-stations → tie.Start
 entry c = start (parts c)
@@ -89,15 +89,16 @@ taken c rows cols C e =
 -- the rows and the columns that are cut
 cut-table : (c : tie.After-cut2)
     → let a = entry (passed (going (shortened c))) .args in
-    TableTaken (a .n) (level (a .n) (now (a .rows)) (a .s)) false (c .before .before .cut .last .0) (c .cut2 .last .0)
+    TableTaken (a .n) (level (a .n) (now (a .rows)) (a .s)) false (shortened c .cut .last .0) (c .cut2 .last .0)
 cut-table c =
-    let r = passed (going (shortened c)) in
+    let k = shortened c in
+    let r = passed (going k) in
     let q = r .spare-stations .result in
     let a = entry r .args in
     let p = entry r .pre in
-    let C = c .before .before .cut .ensures in
-    taken (going (shortened c)) _ _ C
-    (cut-cols (a .n) (p .2 .most) C (subst (λ (l : List ℕ). Cut (a .s) (q .into) (q .out) l (c .cut2 .last .0)) (p .1 .columns) (c .cut2 .ensures)))
+    let C = k .cut .ensures .0 in
+    taken (going k) _ _ C
+    (cut-cols (a .n) (p .2 .most) C (subst (λ (l : List ℕ). Cut (a .s) (q .into) (q .out) l (c .cut2 .last .0)) (p .1 .columns) (c .cut2 .ensures .0)))
 
 -- ---- the needs
 
@@ -120,21 +121,21 @@ returns c =
     let p = entry r .pre in
     (record { verdict = level-none (a .n) (now (a .rows)) (a .s) (r .spare-stations .result) (spares r) (c .if1 .taken); table = p .1 }, p .2)
 
-returns-2 : tie.Need-returns-2
-returns-2 c =
-    let f = c .before .before in
-    let q = passed f .spare-stations .result in
-    let a = entry (passed f) .args in
-    let p = entry (passed f) .pre in
-    let rows : List ℕ = now (a .rows) in
-    (taken f rows (now (a .cols)) (cut-none (a .s) (q .out) (q .into) rows (p .1 .len) (row-fits (a .n) rows (p .2 .most) (p .1 .clean)) (c .if2 .taken)) (p .1 .columns), p .2)
-
 cut-requires : tie.Need-cut-requires
 cut-requires c κs = search needs
 
+-- no leg went: the columns and the neighbours are still those of the table
+returns-2 : tie.Need-returns-2
+returns-2 c =
+    let k = c .before in
+    let a = entry (passed (going k)) .args in
+    let p = entry (passed (going k)) .pre in
+    let same : k .cut .last .0 ≡ now (a .rows) = k .cut .ensures .1 (not-true _ (c .if2 .taken)) in
+    (taken (going k) _ (now (a .cols)) (k .cut .ensures .0) (p .1 .columns ∙ ap (columns (a .n)) (sym same)), subst (λ (l : List ℕ). Linked (a .n) l (now (a .nbr))) (sym same) (p .2))
+
 cut-requires-2 : tie.Need-cut-requires-2
 cut-requires-2 c κs =
-    let s = entry (passed (going (c .before .before .before))) in
+    let s = entry (passed (going (c .before .before))) in
     ap length (s .pre .1 .columns) ∙ length-upto 64 (col (s .args .n) (now (s .args .rows)))
 
 neighbours-requires : tie.Need-neighbours-requires
@@ -157,8 +158,8 @@ strike-spec =
     components-of-requires
     spare-stations-requires
     returns
-    returns-2
     cut-requires
+    returns-2
     cut-requires-2
     neighbours-requires
     returns-3)

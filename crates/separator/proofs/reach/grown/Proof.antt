@@ -1,9 +1,7 @@
 -- `separator::reach::grown` meets its contract. The invariant: `left` is what of the room is not in yet, and `last` came in last. Assumes nothing.
 use borrow.Author.Needs.{needs}
-use denote.Ref.{now}
-use mathlib.Core.Path.{_≡_}
 use mathlib.Core.Logic.{⊎-elim}
-use Prim.Native.Nat.{ℕ, _^_, _<_}
+use Prim.Native.Nat.{_^_, _<_}
 use native.Mathlib.Omega.{arith}
 use lib.Count.{ones}
 use Rattle.circuit.specs.Legs.{leg}
