@@ -33,7 +33,7 @@ module _ (n : ℕ) (R : ℕ → ℕ → Bool) (room : ℕ) where
       c i j li l r (and-l (has room j) (leads n R v j) q) (s i li hi))
       (or-cases (has v j) (has room j && leads n R v j) (sym (has-setOf n (λ k. has v k || has room k && leads n R v k) j l) ∙ e))
 
-  pub grow-within : (f v w : ℕ) → Closed n R room w → Within n v w → Within n (grow f n R room v) w
+  grow-within : (f v w : ℕ) → Closed n R room w → Within n v w → Within n (grow f n R room v) w
   unfolding grow
   grow-within zero v w c s = s
   grow-within (suc f) v w c s = grow-within f (spread n R room v) w c (spread-within v w c s)

@@ -1,16 +1,15 @@
 -- The neighbours of stations and of sets of stations, as the code finds them: words of 64 bits, of which the n stations take the lower. Assumes nothing.
 use mathlib.Core.Path.{_≡_, sym, ap, _∙_}
-use mathlib.Core.Bool.{Bool, true, not, _&&_, _||_}
+use mathlib.Core.Bool.{Bool, true, _&&_, _||_}
 use mathlib.Core.List.{List}
-use Prim.Native.Nat.{ℕ, _-_, _^_, _<_}
+use Prim.Native.Nat.{ℕ, _^_, _<_}
 use native.Mathlib.Nat.{lt-of-lt-of-le}
-use native.Mathlib.Omega.{arith}
-use lib.Bits.{bitAnd, bitOr, and-le-l, or-lt}
+use lib.Bits.{bitOr, or-lt}
 use Rattle.bitset.specs.Sets.{has, any, setOf}
 use Rattle.bitset.proofs.BoolLaws.{iff, and-intro, and-l, and-r}
 use Rattle.bitset.proofs.QuantLaws.{any-intro, any-elim}
-use Rattle.bitset.proofs.HasLaws.{has-and, has-or, member-below, ext}
-use Rattle.bitset.proofs.SetLaws.{setOf-lt, has-setOf, setOf-elim, eq-setOf, has-diff, word-lt, word-has}
+use Rattle.bitset.proofs.HasLaws.{has-or, member-below, ext}
+use Rattle.bitset.proofs.SetLaws.{setOf-lt, has-setOf, setOf-elim, eq-setOf}
 use Rattle.bitset.proofs.MachineLaws.{wide}
 use Rattle.bitset.specs.Upto.{row}
 use Rattle.circuit.specs.Legs.{leg, col, neighbours}
@@ -79,14 +78,3 @@ neighbourhood-of {n} {t} {nbr} w out d hw ho bits =
 pub neighbourhood-lt : (n : ℕ) (t : List ℕ) (w : ℕ) → neighbourhood n t w < 2 ^ n
 unfolding neighbourhood
 neighbourhood-lt n t w = setOf-lt n (leads n (neighbours t) w)
-
--- `near & room & !seen`: what the stations of w lead to inside the room, and is not seen
-module _ (R : ℕ → ℕ → Bool) (w room seen : ℕ) {near : ℕ} (e : near ≡ setOf 64 (leads 64 R w)) where
-  pub fresh-lt : bitAnd (bitAnd near room) ((2 ^ 64 - 1) - seen) < 2 ^ 64
-  fresh-lt = omega (arith, and-le-l (bitAnd near room) ((2 ^ 64 - 1) - seen), and-le-l near room, word-lt 64 (leads 64 R w) e)
-
-  pub fresh-has : seen < 2 ^ 64 → (k : ℕ) → k < 64
-      → has (bitAnd (bitAnd near room) ((2 ^ 64 - 1) - seen)) k ≡ leads 64 R w k && has room k && not (has seen k)
-  fresh-has h k l =
-      has-diff 64 (bitAnd near room) seen k h l
-      ∙ ap (λ (b : Bool). b && not (has seen k)) (has-and near room k ∙ ap (λ (b : Bool). b && has room k) (word-has 64 (leads 64 R w) e k l))

@@ -29,6 +29,34 @@ use Rattle.separator.proofs.GrowLaws.{grow-lt, grow-rest, grow-width}
 use Rattle.separator.proofs.NeighbourLaws.{linked-elim, linked-intro}
 use Rattle.separator.proofs.ArrayLaws.{Writing, writing-start, writing-turn, writing-end}
 
+-- ---- one component: grown inside a room from the least station of the rest
+
+abbrev part : ℕ → ℕ → (ℕ → ℕ → Bool) → ℕ → ℕ → ℕ
+part n m R room rest = grow n n R room (2 ^ trailingZeros m rest)
+
+module _ (n m : ℕ) (R : ℕ → ℕ → Bool) (room rest : ℕ) (most : n ≤ m) (h : rest < 2 ^ n) (p : 0 < rest) where
+  least : Least m rest (trailingZeros m rest)
+  least = trailing-least m rest p (wide most h)
+
+  least-below : trailingZeros m rest < n
+  least-below = member-below n rest (trailingZeros m rest) h (least .member)
+
+  part-lt : part n m R room rest < 2 ^ n
+  part-lt = grow-lt n R room n (2 ^ trailingZeros m rest) (pow-lt least-below)
+
+  -- the least station is the definition's first
+  part-first : part n m R room rest ≡ grow n n R room (2 ^ first n (has rest))
+  part-first = ap (λ (k : ℕ). grow n n R room (2 ^ k)) (sym (trailing-first most rest p h))
+
+  -- it takes a station of the rest
+  pub part-takes : ones (bitAnd rest ((2 ^ m - 1) - part n m R room rest)) < ones rest
+  part-takes =
+      let k : ℕ = trailingZeros m rest in
+      ones-less m rest (part n m R room rest) k (wide most h) (wide most part-lt) (least .below) (least .member)
+      (grow-keeps n R room n (2 ^ k) k least-below (has-self k))
+
+-- ---- the list of them, as the code finds it
+
 module _ (n : ℕ) (R : ℕ → ℕ → Bool) (room : ℕ) where
   -- the components of the stations of `rest`, f at most
   abbrev list : ℕ → ℕ → List ℕ
@@ -49,11 +77,11 @@ module _ (n : ℕ) (R : ℕ → ℕ → Bool) (room : ℕ) where
   parts-most (suc f) rest = cond-elim (λ (ls : List ℕ). length ls ≤ suc f) (eqb rest 0) [] _ (λ _. zero-le) (λ _. suc-le-suc (parts-most f _))
 
   -- `count` components are found, and `rest` has the stations of none of them: a part of the room that R does not lead out of
-  pub record Listing (part : List ℕ) (count rest : ℕ) : Type 0 where
+  pub record Listing (words : List ℕ) (count rest : ℕ) : Type 0 where
     pub below : rest < 2 ^ n
     pub inside : Within n rest room
     pub kept : Closed n R room rest
-    pub written : Writing (list n room) part count (list (n - count) rest)
+    pub written : Writing (list n room) words count (list (n - count) rest)
     pub enough : count + ones rest ≤ n
 
   pub listing-start : room < 2 ^ n → Listing (replicate 64 0) 0 room
@@ -66,11 +94,11 @@ module _ (n : ℕ) (R : ℕ → ℕ → Bool) (room : ℕ) where
         enough = omega (arith, ones-le n room h);
       }
 
-  module _ {part : List ℕ} {count rest : ℕ} (g : Listing part count rest) where
-    -- a component is grown in the rest; R leads both ways, so no station left leads into it
-    pub listing-turn : (c : ℕ) → n ≤ 64 → 0 < rest → ((i j : ℕ) → R i j ≡ true → R j i ≡ true) → c ≡ grow n n R rest (2 ^ trailingZeros 64 rest)
-        → Listing (set part count c) (count + 1) (bitAnd rest ((2 ^ 64 - 1) - c))
-    listing-turn c top p swap e =
+  module _ {words : List ℕ} {count rest : ℕ} (g : Listing words count rest) (top : n ≤ 64) where
+    -- the next component is grown in the rest; R leads both ways, so no station left leads into it
+    pub listing-turn : 0 < rest → ((i j : ℕ) → R i j ≡ true → R j i ≡ true)
+        → let c = grow n n R rest (2 ^ trailingZeros 64 rest) in Listing (set words count c) (count + 1) (bitAnd rest ((2 ^ 64 - 1) - c))
+    listing-turn p swap =
         record {
           below = omega (arith, and-le-l rest ((2 ^ 64 - 1) - c), g .below);
           inside = λ k l m. g .inside k l (left k l m .0);
@@ -79,23 +107,14 @@ module _ (n : ℕ) (R : ℕ → ℕ → Bool) (room : ℕ) where
           enough = omega (arith, g .enough, less);
         }
       where
-        z : ℕ
-        z = trailingZeros 64 rest
-
-        low : Least 64 rest z
-        low = trailing-least 64 rest p (wide top (g .below))
-
-        start : z < n
-        start = member-below n rest z (g .below) (low .member)
+        c : ℕ
+        c = part n 64 R rest rest
 
         small : c < 2 ^ n
-        small = subst (λ (w : ℕ). w < 2 ^ n) (sym e) (grow-lt n R rest n (2 ^ z) (pow-lt start))
-
-        first-in : has c z ≡ true
-        first-in = ap (λ (w : ℕ). has w z) e ∙ grow-keeps n R rest n (2 ^ z) z start (has-self z)
+        small = part-lt n 64 R rest rest top (g .below) p
 
         less : ones (bitAnd rest ((2 ^ 64 - 1) - c)) < ones rest
-        less = ones-less 64 rest c z (wide top (g .below)) (wide top small) (low .below) (low .member) first-in
+        less = part-takes n 64 R rest rest top (g .below) p
 
         -- what is left of the rest
         left : (k : ℕ) → k < n → has (bitAnd rest ((2 ^ 64 - 1) - c)) k ≡ true → (has rest k ≡ true) × (has c k ≡ false)
@@ -107,10 +126,8 @@ module _ (n : ℕ) (R : ℕ → ℕ → Bool) (room : ℕ) where
         keeps a b la lb r d m =
             let (in-rest, out) = left a la m in
             has-diff 64 rest c b (wide top small) (omega arith)
-            ∙ and-intro (g .kept a b la lb r d in-rest) (ap not (is-false (has c b) (λ q. not-both (closed b a lb la (swap a b r) in-rest q) out)))
-          where
-            closed : Closed n R rest c
-            closed = subst (Closed n R rest) (sym e) (grown-closed n R rest (2 ^ z))
+            ∙ and-intro (g .kept a b la lb r d in-rest)
+            (ap not (is-false (has c b) (λ q. not-both (grown-closed n R rest (2 ^ trailingZeros 64 rest) b a lb la (swap a b r) in-rest q) out)))
 
         f : ℕ
         f = n - (count + 1)
@@ -118,10 +135,13 @@ module _ (n : ℕ) (R : ℕ → ℕ → Bool) (room : ℕ) where
         fuel : n - count ≡ suc f
         fuel = omega (arith, g .enough, less)
 
+        -- the rest is room enough
         grown : c ≡ grow n n R room (2 ^ first n (has rest))
         grown =
-            e ∙ grow-rest n R room rest (g .inside) (g .kept) (2 ^ z) (pow-lt start) (pow-within n rest z (low .member))
-            ∙ ap (λ (k : ℕ). grow n n R room (2 ^ k)) (sym (trailing-first top rest p (g .below)))
+            let z : ℕ = trailingZeros 64 rest in
+            grow-rest n R room rest (g .inside) (g .kept) (2 ^ z) (pow-lt (least-below n 64 R rest rest top (g .below) p))
+            (pow-within n rest z (least n 64 R rest rest top (g .below) p .member))
+            ∙ part-first n 64 R room rest top (g .below) p
 
         more : list (n - count) rest ≡ c ∷ list f (bitAnd rest ((2 ^ 64 - 1) - c))
         more =
@@ -129,61 +149,44 @@ module _ (n : ℕ) (R : ℕ → ℕ → Bool) (room : ℕ) where
             ∙ parts-more f rest c p grown
             ∙ ap (λ (x : ℕ). c ∷ list f x) (sym (minus-of top rest c (g .below) (wide top small)))
 
-    pub listing-end : rest ≡ 0 → n ≤ 64 → Listed (list n room) part count
-    listing-end z top = writing-end (g .written) (omega (arith, g .enough)) (ap (list (n - count)) z ∙ parts-none (n - count))
+    pub listing-end : rest ≡ 0 → Listed (list n room) words count
+    listing-end z = writing-end (g .written) (omega (arith, g .enough)) (ap (list (n - count)) z ∙ parts-none (n - count))
 
--- ---- n stations read as m
+-- ---- n stations read as m, where the two relations are the same
 
 module _ (n m : ℕ) (R Q : ℕ → ℕ → Bool) (room : ℕ) (most : n ≤ m) (narrow : (i j : ℕ) → Q i j ≡ true → (i < n) × (j < n) × (R i j ≡ true))
     (widen : (i j : ℕ) → i < n → j < n → R i j ≡ true → Q i j ≡ true) where
-  -- the next component, and the stations that it leaves
-  abbrev next : ℕ → ℕ
-  next rest = grow n n R room (2 ^ first n (has rest))
+  -- the stations that the next component leaves
+  left : ℕ → ℕ
+  left rest = bitAnd rest ((2 ^ m - 1) - part n m R room rest)
 
-  abbrev left : ℕ → ℕ
-  left rest = minus n rest (next rest)
-
-  left-lt : (rest : ℕ) → left rest < 2 ^ n
-  unfolding minus
-  left-lt rest = setOf-lt n _
+  left-lt : (rest : ℕ) → rest < 2 ^ n → left rest < 2 ^ n
+  unfolding left
+  left-lt rest h = omega (arith, and-le-l rest ((2 ^ m - 1) - part n m R room rest))
 
   module _ (rest : ℕ) (h : rest < 2 ^ n) (p : 0 < rest) where
-    -- the least station of the rest
-    abbrev z : ℕ
-    z = trailingZeros m rest
+    parts-step : (f g : ℕ) → list m Q room g (left rest) ≡ list n R room f (left rest) → list m Q room (suc g) rest ≡ list n R room (suc f) rest
+    unfolding left
+    parts-step f g same =
+        parts-more m Q room g rest c p wider
+        ∙ ap (λ (x : ℕ). c ∷ list m Q room g x) (sym (minus-of (omega arith) rest c (wide most h) (wide most small)))
+        ∙ ap (λ (l : List ℕ). c ∷ l) same
+        ∙ sym (parts-more n R room f rest c p (part-first n m R room rest most h p) ∙ ap (λ (x : ℕ). c ∷ list n R room f x) (sym (minus-of most rest c h (wide most small))))
+      where
+        c : ℕ
+        c = part n m R room rest
 
-    low : Least m rest z
-    low = trailing-least m rest p (wide most h)
+        small : c < 2 ^ n
+        small = part-lt n m R room rest most h p
 
-    start : z < n
-    start = member-below n rest z h (low .member)
-
-    next-least : next rest ≡ grow n n R room (2 ^ z)
-    next-least = ap (λ (k : ℕ). grow n n R room (2 ^ k)) (trailing-first most rest p h)
-
-    next-lt : next rest < 2 ^ n
-    next-lt = subst (λ (w : ℕ). w < 2 ^ n) (sym next-least) (grow-lt n R room n (2 ^ z) (pow-lt start))
-
-    next-wide : next rest ≡ grow m m Q room (2 ^ first m (has rest))
-    next-wide =
-        next-least ∙ sym (grow-width n m R Q room (2 ^ z) most (pow-lt start) narrow widen)
-        ∙ ap (λ (k : ℕ). grow m m Q room (2 ^ k)) (sym (trailing-first (omega arith) rest p (wide most h)))
-
-    left-is : bitAnd rest ((2 ^ m - 1) - next rest) ≡ left rest
-    left-is = minus-of most rest (next rest) h (wide most next-lt)
+        wider : c ≡ grow m m Q room (2 ^ first m (has rest))
+        wider =
+            sym (grow-width n m R Q room (2 ^ trailingZeros m rest) most (pow-lt (least-below n m R room rest most h p)) narrow widen)
+            ∙ part-first m m Q room rest (omega arith) (wide most h) p
 
     left-fewer : ones (left rest) < ones rest
-    left-fewer =
-        subst (λ (w : ℕ). ones w < ones rest) left-is
-        (ones-less m rest (next rest) z (wide most h) (wide most next-lt) (low .below) (low .member)
-        (ap (λ (w : ℕ). has w z) next-least ∙ grow-keeps n R room n (2 ^ z) z start (has-self z)))
-
-    parts-step : (f g : ℕ) → list m Q room g (left rest) ≡ list n R room f (left rest) → list m Q room (suc g) rest ≡ list n R room (suc f) rest
-    parts-step f g more =
-        parts-more m Q room g rest (next rest) p next-wide
-        ∙ ap (λ (x : ℕ). next rest ∷ list m Q room g x) (sym (minus-of (omega arith) rest (next rest) (wide most h) (wide most next-lt)) ∙ left-is)
-        ∙ ap (λ (l : List ℕ). next rest ∷ l) more
-        ∙ sym (parts-more n R room f rest (next rest) p refl)
+    unfolding left
+    left-fewer = part-takes n m R room rest most h p
 
   parts-same : (f g rest : ℕ) → ones rest ≡ 0 → list m Q room g rest ≡ list n R room f rest
   parts-same f g rest e =
@@ -196,7 +199,7 @@ module _ (n m : ℕ) (R Q : ℕ → ℕ → Bool) (room : ℕ) (most : n ≤ m) 
   parts-width (suc f) zero rest h few many = parts-same (suc f) zero rest (omega arith)
   parts-width (suc f) (suc g) rest h few many =
       ⊎-elim
-      (λ p. parts-step rest h p f g (parts-width f g (left rest) (left-lt rest) (omega (arith, left-fewer rest h p)) (omega (arith, left-fewer rest h p))))
+      (λ p. parts-step rest h p f g (parts-width f g (left rest) (left-lt rest h) (omega (arith, left-fewer rest h p)) (omega (arith, left-fewer rest h p))))
       (λ q. parts-same (suc f) (suc g) rest (ap ones (let z : rest ≡ 0 = omega arith in z) ∙ ones-zero))
       (below? 0 rest)
 

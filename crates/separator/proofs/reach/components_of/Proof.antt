@@ -2,23 +2,20 @@
 -- taken a station out of `rest`. Assumes nothing.
 use borrow.Author.Needs.{needs}
 use denote.Ref.{now}
-use mathlib.Core.Path.{_≡_, refl, ap, _∙_}
+use mathlib.Core.Path.{_≡_, refl, sym, ap, _∙_, subst}
 use Prim.Native.Nat.{ℕ, _+_, _-_, _^_, _≤_, _<_}
 use native.Mathlib.Omega.{arith}
 use lib.Bits.{bitAnd, and-le-l}
 use lib.Count.{ones, ones-le, trailingZeros}
-use lib.ListN.{length, length-set}
-use Rattle.bitset.specs.Sets.{has}
+use lib.ListN.{length, set, length-set}
 use Rattle.bitset.specs.inner.Members.{Least}
-use Rattle.bitset.proofs.SetLaws.{has-self}
-use Rattle.bitset.proofs.OnesLaws.{ones-pos, ones-less}
+use Rattle.bitset.proofs.OnesLaws.{ones-pos}
 use Rattle.bitset.proofs.LeastLaws.{trailing-least}
 use Rattle.bitset.proofs.MachineLaws.{shl-one}
 use Rattle.circuit.specs.Legs.{leg}
 use Rattle.separator.specs.Components.{grow}
 use Rattle.separator.specs.inner.Reach.{Mutual}
-use Rattle.separator.proofs.ComponentLaws.{grow-keeps}
-use Rattle.separator.proofs.PartLaws.{Listing, listing-start, listing-turn, listing-end}
+use Rattle.separator.proofs.PartLaws.{part-takes, Listing, listing-start, listing-turn, listing-end}
 use Rattle.separator.proofs.reach.components_of.Statement.{statement}
 use Rattle.separator.proofs.reach.components_of.Tie as tie
 
@@ -78,10 +75,8 @@ less : (c : tie.After-grown Inv-loop μ-loop)
     → ones (bitAnd (c .before .before .loop .rest) ((2 ^ 64 - 1) - c .grown .result)) < ones (c .before .before .loop .rest)
 less c =
     let l = c .before .before .loop in
-    let z = low (c .before) in
-    let k : ℕ = trailingZeros 64 (l .rest) in
-    ones-less 64 (l .rest) (c .grown .result) k (l .inv .1) (c .grown .ok) (z .below) (z .member)
-    (ap (λ (w : ℕ). has w k) (grown c) ∙ grow-keeps 64 (leg (now (entry c .args .nbr))) (l .rest) 64 (2 ^ k) k (z .below) (has-self k))
+    subst (λ (w : ℕ). ones (bitAnd (l .rest) ((2 ^ 64 - 1) - w)) < ones (l .rest)) (sym (grown c))
+    (part-takes 64 64 (leg (now (entry c .args .nbr))) (l .rest) (l .rest) (omega arith) (l .inv .1) (omega arith))
 
 loop-less : tie.Need-loop-less Inv-loop μ-loop
 loop-less c = less c
@@ -94,14 +89,16 @@ loop-again c =
       length-set (l .part) (l .count) _ ∙ l .inv .0,
       omega (arith, and-le-l (l .rest) ((2 ^ 64 - 1) - r), l .inv .1),
       omega (arith, less c, l .inv .2),
-      λ d. listing-turn 64 (leg (now (a .nbr))) (a .outside) (l .inv .3 d) r (omega arith) (omega arith) d (grown c),
+      λ d.
+          subst (λ (w : ℕ). Listing 64 (leg (now (a .nbr))) (a .outside) (set (l .part) (l .count) w) (l .count + 1) (bitAnd (l .rest) ((2 ^ 64 - 1) - w))) (sym (grown c))
+          (listing-turn 64 (leg (now (a .nbr))) (a .outside) (l .inv .3 d) (omega arith) (omega arith) d),
     )
 
 returns : tie.Need-returns Inv-loop μ-loop
 returns c =
     let l = c .before .loop in
     let a = c .before .before .before .args in
-    λ d. listing-end 64 (leg (now (a .nbr))) (a .outside) (l .inv .3 d) (c .loop-test .left) (omega arith)
+    λ d. listing-end 64 (leg (now (a .nbr))) (a .outside) (l .inv .3 d) (omega arith) (c .loop-test .left)
 
 pub components-of-spec : {M : Type 1} → statement M
 components-of-spec =
