@@ -1,7 +1,7 @@
 // Neighbours, levels from a seed, and components outside a set. A set of stations is a word, bit k for station k.
-// The words of the neighbours are all that levels and components need of a table. So the table t is no parameter, and n is one only to say which stations
-// are not reached: a promise speaks of any n and t with `Linked n t nbr`, words that are the neighbours of the n stations of t. Of other words nothing is
-// said.
+// The words of the neighbours are all that levels and components need of a table, so none of them takes one. What grows along words is promised of these words
+// alone, read as those of 64 stations. The levels are promised for any table t of n stations with `Linked n t nbr`: the words are its neighbours. Of other words
+// nothing is said.
 ghost use denote.Ref.{now};
 ghost use mathlib.Core.List.{List};
 ghost use mathlib.Core.Path.{_≡_};
