@@ -6,6 +6,7 @@ mod difference;
 mod draw;
 mod islands;
 mod made;
+pub mod neighbours;
 mod watch;
 
 use std::fmt::Display;
@@ -14,6 +15,7 @@ use std::panic::{catch_unwind, AssertUnwindSafe};
 use self::call::{Answer, Call};
 use self::difference::Step;
 use self::made::Known;
+use self::neighbours::NeighbourCounts;
 use self::watch::Watch;
 use crate::calls::{Calls, Fast, Plain};
 use crate::card;
@@ -44,6 +46,7 @@ pub struct Counts {
     pub watched: u64,
     pub chains: ChainCounts,
     pub islands: IslandCounts,
+    pub neighbours: NeighbourCounts,
 }
 
 /// Chain steps by hand that were not refused, by what they did.
@@ -92,6 +95,7 @@ impl Counts {
         self.watched += other.watched;
         self.chains.add(&other.chains);
         self.islands.add(&other.islands);
+        self.neighbours.add(&other.neighbours);
     }
 
     fn note(&mut self, answer: &Answer) {
@@ -203,13 +207,16 @@ impl Session<'_> {
         Ok(())
     }
 
-    /// A chain step on the opened state, on islands passes and runs too, then calls
-    /// in any order, the whole run, and more calls on the ended state: some of any
-    /// kind, then reports into buffers of every length that matters.
+    /// A chain step on the opened state, on some tables passes and runs too, then
+    /// calls in any order, the whole run, and more calls on the ended state: some of
+    /// any kind, then reports into buffers of every length that matters.
     fn sequence(&mut self) -> Found<()> {
         self.chain_and_back()?;
         if self.made.islands {
             self.islands_and_back()?;
+        }
+        if self.made.striking {
+            self.seeds_and_back()?;
         }
         for _ in 0..self.rng.between(4, 9) {
             match self.rng.below(12) {
@@ -253,6 +260,21 @@ impl Session<'_> {
             }
         }
         self.put(kept);
+        Ok(())
+    }
+
+    /// Each pass on the opened state, by hand and as the first step of a whole run,
+    /// that the following calls don't see.
+    fn seeds_and_back(&mut self) -> Found<()> {
+        let kept = self.state;
+        for seed in 1..=kept.n {
+            self.call(Call::Pass { seed })?;
+            let place = seed + 1;
+            self.put(WorkState { place, ..kept });
+            let budget = u32::MAX;
+            self.call(Call::Run { budget })?;
+            self.put(kept);
+        }
         Ok(())
     }
 
@@ -320,7 +342,7 @@ impl Session<'_> {
         if with_plain && answer != self.make(&call, &Plain) {
             return Err(self.difference("the plain answer differs", &answer));
         }
-        self.count_by_hand(&call, &answer);
+        self.count_taken(&call, &answer);
         if let Some(state) = answer.state() {
             if let Some(fault) = self.watch.fault(state) {
                 return Err(self.difference(fault, &answer));
@@ -332,17 +354,21 @@ impl Session<'_> {
         Ok(answer)
     }
 
-    /// Counts a chain step or a pass by what it did to the current state.
-    fn count_by_hand(&mut self, call: &Call, answer: &Answer) {
-        let Answer::Handled(handled) = answer else {
-            return;
-        };
-        if handled.number != card::TAKEN {
+    /// Counts a chain step, a pass or a run by what it did to the current state.
+    fn count_taken(&mut self, call: &Call, answer: &Answer) {
+        if answer.number() != card::TAKEN {
             return;
         }
-        match call {
-            Call::Chain => self.counts.chains.note(&self.state, handled),
-            Call::Pass { seed } => self.counts.islands.note(&self.state, *seed, handled),
+        let (state, counts) = (&self.state, &mut self.counts);
+        match (call, answer) {
+            (Call::Chain, Answer::Handled(chained)) => counts.chains.note(state, chained),
+            (Call::Pass { seed }, Answer::Handled(passed)) => {
+                counts.islands.note(state, *seed, passed);
+                counts.neighbours.note_pass(state, *seed, passed);
+            }
+            (Call::Run { budget }, Answer::Ran(ran)) => {
+                counts.neighbours.note_run(state, *budget, ran);
+            }
             _ => {}
         }
     }

@@ -119,6 +119,17 @@ impl Family {
         Family::Permutation,
     ];
 
+    /// The ones on which a pass or a run often goes on after a level has struck
+    /// legs.
+    pub const WITH_STRIKING_LEVELS: [Family; 6] = [
+        Family::Medium,
+        Family::RingWithChords,
+        Family::ClustersAtTwo,
+        Family::OneWayRoads,
+        Family::ClosingLegs,
+        Family::SmallLoops,
+    ];
+
     /// One of all families.
     pub fn any(rng: &mut Xorshift) -> Family {
         let for_passes = Family::FOR_PASSES.len();
@@ -246,6 +257,36 @@ pub fn choices_at_odds() -> LegTable {
     let outside = [(2, 1), (1, 3), (1, 4), (3, 5), (5, 3), (5, 4)];
     let inside = [(3, 2), (4, 3)];
     LegTable::from_legs(5, outside.into_iter().chain(inside))
+}
+
+/// A two-way ring of n stations, n even, with roads across it between the stations
+/// at the same distance from station 1. From there every level but the last has two
+/// stations and strikes the road between them.
+pub fn ring_of_rungs(n: usize) -> LegTable {
+    let around = (1..=n).map(|i| (i, i % n + 1));
+    let across = (2..=n / 2).map(|i| (i, n + 2 - i));
+    two_way(n, &around.chain(across).collect::<Vec<_>>())
+}
+
+/// From seed 1 there are two inner levels of as many stations, all joined. The
+/// first one strikes the roads between its first station and the others, the second
+/// one the road between its first two.
+pub fn two_wide_levels(width: usize) -> LegTable {
+    let (first, second) = (2..=width + 1, width + 2..=2 * width + 1);
+    let n = 2 * width + 2;
+    let mut table = LegTable::empty(n);
+    for (i, j) in LegTable::full(n).legs() {
+        let inside = |level: &RangeInclusive<usize>| level.contains(&i) && level.contains(&j);
+        let between = first.contains(&i) && second.contains(&j);
+        let from_the_ends = i == 1 && first.contains(&j) || i == n && second.contains(&j);
+        if inside(&first) || inside(&second) || between || from_the_ends {
+            table.add(i, j);
+        }
+    }
+    for (i, j) in [(2, 1), (width + 2, 2), (width + 3, n)] {
+        table.add(i, j);
+    }
+    table
 }
 
 /// The table with every leg turned round.

@@ -18,6 +18,15 @@ pub struct Ran {
 }
 
 pub fn run(state: WorkState, budget: u32) -> Ran {
+    run_with(state, budget, pass_table)
+}
+
+/// A run with passes of another kind: they get the table, the seed and the limit.
+pub fn run_with(
+    state: WorkState,
+    budget: u32,
+    mut pass: impl FnMut(&mut LegTable, usize, usize) -> Verdict,
+) -> Ran {
     if state::bad(&state) {
         return Ran {
             number: card::BAD_WORK_STATE,
@@ -30,7 +39,7 @@ pub fn run(state: WorkState, budget: u32) -> Ran {
     let mut after = state;
     let mut steps = 0;
     while after.end == End::Open && steps < budget {
-        step(&mut table, &mut after);
+        step(&mut table, &mut after, &mut pass);
         steps += 1;
     }
     after.rows = table.rows();
@@ -43,12 +52,16 @@ pub fn run(state: WorkState, budget: u32) -> Ran {
 }
 
 /// One step; the rows of the state are left to the caller.
-fn step(table: &mut LegTable, state: &mut WorkState) {
+fn step(
+    table: &mut LegTable,
+    state: &mut WorkState,
+    pass: &mut impl FnMut(&mut LegTable, usize, usize) -> Verdict,
+) {
     let before = table.leg_count();
     let verdict = match state.place {
         0 => sweep_table(table),
         1 => chain_table(table),
-        place => pass_table(table, place as usize - 1, state.limit as usize),
+        place => pass(table, place as usize - 1, state.limit as usize),
     };
     if verdict == Verdict::None {
         state.end = End::None;

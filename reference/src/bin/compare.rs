@@ -2,7 +2,8 @@
 //!
 //! `compare [--seed S] [--sheets COUNT]` goes through that many made-up sheets,
 //! `compare --seed S --sheet K` through a single one of them again. A difference
-//! ends it with status 1.
+//! ends it with status 1, and so does a count of neighbours that is still 0 after
+//! many sheets.
 
 use std::process::ExitCode;
 use std::str::FromStr;
@@ -16,6 +17,8 @@ use reference::Library;
 const USAGE: &str = "usage: compare [--seed S] [--sheets COUNT | --sheet K]";
 const COMMAND: &str = "cargo run --release --offline --features library --bin compare --";
 const THREADS: usize = 2;
+/// So many sheets have calls of every kind.
+const MANY_SHEETS: u64 = 1_000;
 
 struct Options {
     seed: u64,
@@ -37,6 +40,10 @@ fn main() -> ExitCode {
         Ok(counts) => {
             tell(options.seed, end - first, &counts);
             eprintln!("compare: {:.1} seconds", start.elapsed().as_secs_f64());
+            if end - first >= MANY_SHEETS && !counts.neighbours.complete() {
+                println!("compare: a count of neighbours is 0");
+                return ExitCode::FAILURE;
+            }
             ExitCode::SUCCESS
         }
         Err(found) => {
@@ -132,6 +139,11 @@ fn tell(seed: u64, sheets: u64, counts: &Counts) {
     println!(
         "  passes by hand with a station unreached: {} without inner level, {} with all over the limit, {} with one to look at",
         islands.no_level, islands.over_limit, islands.level
+    );
+    let neighbours = &counts.neighbours;
+    println!(
+        "  neighbours: {} passes by hand have others at a later level, {} differ by outgoing legs alone, {} runs differ by those of the first level",
+        neighbours.changed, neighbours.by_outgoing, neighbours.by_first
     );
 }
 

@@ -1,7 +1,7 @@
 //! The sheets to compare on, with what is known of them beforehand.
 
 use crate::card::Number;
-use crate::gen::{self, damaged, plant_round, random, wide_islands, Sheet, Xorshift};
+use crate::gen::{self, damaged, plant_round, random, wide_islands, Family, Sheet, Xorshift};
 use crate::table::{Leg, LegTable};
 
 pub struct Made {
@@ -12,6 +12,8 @@ pub struct Made {
     /// The table is one on which the levels of a pass often say nothing, although
     /// some stations are out of reach.
     pub islands: bool,
+    /// The table is one on which passes often go on after striking legs.
+    pub striking: bool,
 }
 
 /// What opening the sheet must give.
@@ -28,6 +30,7 @@ impl Made {
             3 => damaged_sheet(rng, 1 + (index / 4 % 5) as Number),
             _ if rng.percent(10) => random_sheet(rng),
             _ if rng.percent(8) => sheet_of_islands(rng),
+            _ if rng.percent(6) => striking_sheet(rng),
             _ => sheet_of_table(rng),
         }
     }
@@ -50,6 +53,7 @@ fn random_sheet(rng: &mut Xorshift) -> Made {
         known: Known::Nothing,
         round: None,
         islands: false,
+        striking: false,
     }
 }
 
@@ -61,6 +65,21 @@ fn sheet_of_islands(rng: &mut Xorshift) -> Made {
         known: Known::Table(table),
         round: None,
         islands: true,
+        striking: false,
+    }
+}
+
+/// Few stations, as many calls are made on it.
+fn striking_sheet(rng: &mut Xorshift) -> Made {
+    let n = rng.between(6, 12);
+    let family = rng.pick(&Family::WITH_STRIKING_LEVELS);
+    let table = family.table(rng, n);
+    Made {
+        bytes: any_sheet(rng, &table).bytes(),
+        known: Known::Table(table),
+        round: None,
+        islands: false,
+        striking: true,
     }
 }
 
@@ -76,6 +95,7 @@ fn sheet_of_table(rng: &mut Xorshift) -> Made {
         known: Known::Table(table),
         round,
         islands: false,
+        striking: false,
     }
 }
 
@@ -130,6 +150,7 @@ fn damaged_sheet(rng: &mut Xorshift, number: Number) -> Made {
         known,
         round: None,
         islands: false,
+        striking: false,
     }
 }
 
@@ -141,5 +162,6 @@ fn noise(rng: &mut Xorshift) -> Made {
         known: Known::Nothing,
         round: None,
         islands: false,
+        striking: false,
     }
 }

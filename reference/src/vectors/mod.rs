@@ -5,6 +5,7 @@ mod chains;
 mod islands;
 mod lines;
 mod lists;
+mod neighbours;
 mod openings;
 mod passes;
 mod runs;
@@ -27,6 +28,7 @@ pub fn script() -> Script {
     islands::add(&mut script);
     runs::add(&mut script);
     lists::add(&mut script);
+    neighbours::add(&mut script);
     script
 }
 

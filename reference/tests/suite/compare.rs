@@ -30,6 +30,8 @@ fn fast_calls_differ_nowhere() {
     assert!(chains.struck > 100 && chains.none > 100 && chains.left > 100);
     let islands = &counts.islands;
     assert!(islands.no_level > 50 && islands.over_limit > 40 && islands.level > 20);
+    let neighbours = &counts.neighbours;
+    assert!(neighbours.changed > 10 && neighbours.by_outgoing > 100 && neighbours.by_first > 10);
 }
 
 #[test]

@@ -7,6 +7,7 @@ mod choices;
 mod compare;
 mod fast;
 mod islands;
+mod neighbours;
 mod openings;
 mod programs;
 mod scripts;
