@@ -64,7 +64,8 @@ pub(crate) fn pass_on(
     requires { ⌜ (n ≤ 64) × (seed < n) × Columned n (now rows) (now cols) ⌝ }
     ensures { λ r. ⌜ TableTaken n (pass n (now (rows .entry)) limit seed) r (now (rows .exit)) (now (cols .exit)) ⌝ }
 {
-    let mut nbr = separator::neighbours(rows, cols, n);
+    let mut nbr = [0u64; 64];
+    separator::neighbours(rows, cols, n, &mut nbr);
     let found = separator::levels_from(&nbr, n, seed);
     if found.unreached != 0 {
         return true;

@@ -36,6 +36,6 @@ pub fn strike(
         return false;
     }
     level::cut(cols, s, spares.into, spares.out);
-    *nbr = reach::neighbours(rows, cols, n);
+    reach::neighbours(rows, cols, n, nbr);
     false
 }

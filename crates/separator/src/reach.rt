@@ -19,18 +19,17 @@ pub struct Levels {
     pub unreached: u64,
 }
 
-// The stations with a leg to or from each station: words beyond n are 0.
-pub fn neighbours(rows: &[u64; 64], cols: &[u64; 64], n: usize) -> [u64; 64]
+// Gathers the neighbours: into the word of each station those with a leg to or from it. Words beyond n are 0.
+pub fn neighbours(rows: &[u64; 64], cols: &[u64; 64], n: usize, nbr: &mut [u64; 64])
     requires { ⌜ (n ≤ 64) × Square n (now rows) × (now cols ≡ columns n (now rows)) ⌝ }
-    ensures { λ r. ⌜ r ≡ tableOf n (neighbours (now (rows .entry))) ⌝ }
+    ensures { λ _. ⌜ now (nbr .exit) ≡ tableOf n (neighbours (now (rows .entry))) ⌝ }
 {
-    let mut out = [0u64; 64];
+    *nbr = [0u64; 64];
     let mut i = 0usize;
     while i < n {
-        out[i] = rows[i] | cols[i];
+        nbr[i] = rows[i] | cols[i];
         i += 1;
     }
-    out
 }
 
 // The neighbours of the stations of a set.

@@ -140,14 +140,14 @@ cut-requires-2 c κs =
 
 neighbours-requires : tie.Need-neighbours-requires
 neighbours-requires c κs =
-    let k = c .before .before in
+    let k = c .before .before .before in
     let p = entry (passed (going (shortened k))) .pre in
     let C = cut-table k .table in
     (p .2 .most, stray-row _ _ (p .2 .most) (C .clean), C .columns)
 
 returns-3 : tie.Need-returns-3
 returns-3 c =
-    let k = c .before .before .before in
+    let k = c .before .before .before .before in
     (cut-table k, record { most = entry (passed (going (shortened k))) .pre .2 .most; table = c .neighbours .ensures })
 
 pub strike-spec : {M : Type 1} → statement M

@@ -18,7 +18,7 @@ use Rattle.filter.proofs.passing.pass_on.Tie as tie
 
 neighbours-requires : tie.Need-neighbours-requires
 neighbours-requires c κs =
-    let s = c .before .before in
+    let s = c .before .before .before in
     (s .pre .0, stray-row (s .args .n) _ (s .pre .0) (s .pre .2 .clean), s .pre .2 .columns)
 
 levels-from-requires : tie.Need-levels-from-requires
@@ -30,10 +30,10 @@ abbrev linked : tie.After-levels-from → tie.After-neighbours
 linked c = c .before .before
 
 abbrev start : tie.After-levels-from → tie.Start
-start c = linked c .before .before .before
+start c = linked c .before .before .before .before
 
 -- the neighbours are gathered
-near : (c : tie.After-levels-from) → Linked (start c .args .n) (start c .args .rows .now) (linked c .neighbours .result)
+near : (c : tie.After-levels-from) → Linked (start c .args .n) (start c .args .rows .now) (linked c .neighbours .last .1 .1 .1 .0)
 near c = record { most = start c .pre .0; table = linked c .neighbours .ensures }
 
 -- the levels are found

@@ -24,31 +24,31 @@ abbrev word : ℕ → List ℕ → ℕ → ℕ
 word n t i = cond (ltb i n) (setOf n (neighbours t i)) 0
 
 abbrev Inv-loop : tie.InvT-loop
-Inv-loop rows cols n out₀ i₀ out i = (i ≤ n) × Changed 64 (word n rows) (replicate 64 0) i out
+Inv-loop rows cols n nbr₀ i₀ nbr i = (i ≤ n) × Changed 64 (word n rows) (replicate 64 0) i nbr
 
 abbrev μ-loop : tie.MeasureT-loop
-μ-loop rows cols n out₀ i₀ out i = n - i
+μ-loop rows cols n nbr₀ i₀ nbr i = n - i
 
 loop-holds : tie.Need-loop-holds Inv-loop μ-loop
 loop-holds c = (omega arith, changed-none 64 _ _ (length-replicate {A = ℕ} 64 0))
 
-mul-out : tie.Need-mul-out Inv-loop μ-loop
-mul-out c = search needs
+mul-nbr : tie.Need-mul-nbr Inv-loop μ-loop
+mul-nbr c = search needs
 
-element-copy-out-out : tie.Need-element-copy-out-out Inv-loop μ-loop
-element-copy-out-out c = search needs
+element-copy-out-nbr : tie.Need-element-copy-out-nbr Inv-loop μ-loop
+element-copy-out-nbr c = search needs
 
-mul-out-2 : tie.Need-mul-out-2 Inv-loop μ-loop
-mul-out-2 c = search needs
+mul-nbr-2 : tie.Need-mul-nbr-2 Inv-loop μ-loop
+mul-nbr-2 c = search needs
 
-element-copy-out-out-2 : tie.Need-element-copy-out-out-2 Inv-loop μ-loop
-element-copy-out-out-2 c = search needs
+element-copy-out-nbr-2 : tie.Need-element-copy-out-nbr-2 Inv-loop μ-loop
+element-copy-out-nbr-2 c = search needs
 
-mul-out-3 : tie.Need-mul-out-3 Inv-loop μ-loop
-mul-out-3 c = search needs
+mul-nbr-3 : tie.Need-mul-nbr-3 Inv-loop μ-loop
+mul-nbr-3 c = search needs
 
-array-write-out : tie.Need-array-write-out Inv-loop μ-loop
-array-write-out c = search needs
+element-write-nbr : tie.Need-element-write-nbr Inv-loop μ-loop
+element-write-nbr c = search needs
 
 add-i : tie.Need-add-i Inv-loop μ-loop
 add-i c = search needs
@@ -59,8 +59,8 @@ loop-less c = omega arith
 loop-again : tie.Need-loop-again Inv-loop μ-loop
 loop-again c =
     let l = c .before .before .before .loop in
-    let a = c .before .before .before .before .args in
-    let p = c .before .before .before .before .pre in
+    let a = c .before .before .before .before .before .args in
+    let p = c .before .before .before .before .before .pre in
     let rows : List ℕ = now (a .rows) in
     let below : l .i < a .n = omega arith in
     let low : l .i < 64 = omega arith in
@@ -76,7 +76,7 @@ returns : tie.Need-returns Inv-loop μ-loop
 unfolding tableOf
 returns c =
     let l = c .before .loop in
-    let n : ℕ = c .before .before .args .n in
+    let n : ℕ = c .before .before .before .args .n in
     changed-end 0 (l .inv .1) (λ k g m. getD-replicate {A = ℕ} 64 k 0 0 m ∙ sym (cond-false _ 0 (le-ltb k n (omega arith))))
 
 pub neighbours-spec : {M : Type 1} → statement M
@@ -86,12 +86,12 @@ neighbours-spec =
     Inv-loop
     μ-loop
     loop-holds
-    mul-out
-    element-copy-out-out
-    mul-out-2
-    element-copy-out-out-2
-    mul-out-3
-    array-write-out
+    mul-nbr
+    element-copy-out-nbr
+    mul-nbr-2
+    element-copy-out-nbr-2
+    mul-nbr-3
+    element-write-nbr
     add-i
     loop-less
     loop-again
