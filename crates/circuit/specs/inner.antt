@@ -1,3 +1,4 @@
 -- What the functions promise each other.
 pub mod Tables
 pub mod Lists
+pub mod Fills

@@ -17,10 +17,10 @@ use Rattle.bitset.proofs.MachineLaws.{full-setOf}
 use Rattle.circuit.specs.Legs.{tableOf}
 use Rattle.circuit.specs.inner.Tables.{Square}
 use Rattle.circuit.specs.State.{fresh}
-use Rattle.sheet.specs.Layout.{Entry, Page, given}
+use Rattle.sheet.specs.Layout.{Entry, free, Page, given}
 use Rattle.sheet.specs.Open.{Got, got, fault, _then_, readEntry, readEntries, readEnd, readRest, refused, opened}
 use Rattle.sheet.specs.inner.Reader.{GotAt, FaultAt, nextOf, prevOf, legal}
-use Rattle.sheet.proofs.TableLaws.{barredOf, free, mapped-at, legal-given}
+use Rattle.sheet.proofs.TableLaws.{barredOf, mapped-at, legal-given}
 
 -- ---- i records, then k records
 

@@ -3,7 +3,6 @@ use mathlib.Core.Path.{_≡_, refl, sym, ap, ap₂, _∙_}
 use mathlib.Core.Logic.{⊎-elim}
 use mathlib.Core.Bool.{Bool, true, false, not, cond, _&&_}
 use mathlib.Core.List.{List, [], _∷_, map}
-use mathlib.Core.Option.{none}
 use Prim.Native.Nat.{ℕ, zero, suc, _-_, _^_, _≤_, _<_}
 use native.Mathlib.Nat.{lt-of-lt-of-le, not-suc-le-zero, le-of-suc-le-suc}
 use native.Mathlib.Omega.{arith}
@@ -22,7 +21,7 @@ use Rattle.bitset.proofs.SetLaws.{setOf-lt, has-setOf, eq-setOf, setOf-ext}
 use Rattle.bitset.proofs.UptoLaws.{getD-upto, upto-cong}
 use Rattle.circuit.specs.Legs.{columns, leg, col, tableOf, fullTable}
 use Rattle.circuit.proofs.LegsLaws.{row-in, row-out}
-use Rattle.sheet.specs.Layout.{Entry, Page, allows, fixes, entryAt, given}
+use Rattle.sheet.specs.Layout.{Entry, Page, free, allows, fixes, entryAt, given}
 use Rattle.sheet.specs.inner.Reader.{nextOf, prevOf, legal}
 
 -- row i of the table
@@ -86,10 +85,6 @@ tableOf-ext n p q f =
 -- the stations below n that may not come before the station of a record
 abbrev pub barredOf : ℕ → Entry → ℕ
 barredOf n e = bitAnd (setOf 64 (λ j. ltb j n)) ((2 ^ 64 - 1) - prevOf e)
-
--- the record that says nothing
-abbrev pub free : Entry
-free = record { next = none; prev = none; fixed = none }
 
 getD-map : (f : Entry → ℕ) (es : List Entry) (k : ℕ) → k < length es → getD (map f es) k 0 ≡ f (getD es k free)
 getD-map f [] k l = absurd (not-suc-le-zero l)
