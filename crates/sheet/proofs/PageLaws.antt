@@ -74,7 +74,7 @@ module _ (n w : ℕ) where
 module _ (n : ℕ) (t : List ℕ) where
   pub entries-length : length (pageOf n t .entries) ≡ n
   unfolding pageOf
-  entries-length = length-upto n (λ i. entryOf n (row t i))
+  entries-length = length-upto n _
 
   -- the record of station i
   pub entry-at : (i : ℕ) → i < n → entryAt (pageOf n t) i ≡ entryOf n (row t i)
