@@ -87,16 +87,6 @@ unfolding wordsAll afterAll
 all-hold o s w H [] = H
 all-hold o s w H (c ∷ cs) = all-hold o (wordsHanded s c) (handed w c) (handed-holds o s w H c) cs
 
-read-long : (len limit : ℕ) (g : Got Page) → length (rowsOf (opened len limit g .work)) ≡ 64
-unfolding opened
-read-long len limit (fault c s) = length-replicate {A = ℕ} 64 0
-read-long len limit (got p s) = length-tableOf (p .stations) (given p)
-
-opened-long : (sheet : List ℕ) (limit : ℕ) → length (rowsOf (openCall sheet limit .work)) ≡ 64
-unfolding openCall
-opened-long sheet limit =
-    cond-elim (λ (o : Opened). length (rowsOf (o .work)) ≡ 64) (outside 1 64 limit) (refused BadLimit 0) (opened (length sheet) limit (readPage sheet)) (λ _. length-replicate {A = ℕ} 64 0) (λ _. read-long (length sheet) limit (readPage sheet))
-
 pub in-sequence : (s sheet : List ℕ) (limit : ℕ) → stateWords ≤ length s → (cs : List Call) → InSequence s sheet limit cs
 unfolding openedWords
 in-sequence s sheet limit h cs =
