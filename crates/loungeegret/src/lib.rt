@@ -18,7 +18,7 @@ ghost use Rattle.report.specs.Lines.{reportCall, reportBytes};
 ghost use Rattle.filter.specs.Calls.{handCall, sweepCall, chainCall, passCall, runCall};
 ghost use Rattle.output.specs.Program.{programText};
 ghost use Rattle.loungeegret.specs.Words.{stateWords, loaded, storedIn};
-ghost use Rattle.loungeegret.specs.Results.{wordsAfter, OpenResult, CallResult, RunResult, CheckResult, ReportResult, PrintResult};
+ghost use Rattle.loungeegret.specs.Results.{wordsAfter, OpenResult, CallResult, RunResult, CheckResult, FillResult, PrintResult};
 
 // Where the words stand that follow the rows of the table, and how many words a state has.
 const N: usize = 64;
@@ -209,7 +209,7 @@ pub extern "C" fn loungeegret_check_list(state: &[u64], list: &[u8], yes: &mut u
 // Writes the station lines to the start of the buffer, and through `length` how many bytes they are.
 #[no_mangle]
 pub extern "C" fn loungeegret_report(state: &[u64], buf: &mut [u8], length: &mut usize) -> u32
-    ensures { λ r. ⌜ ReportResult (reportCall (loaded (now (state .entry))) (now (buf .entry))) (reportBytes (loaded (now (state .entry))) (now (buf .entry))) (now (state .entry)) (now (buf .entry)) (now (buf .exit)) (now (length .entry)) (now (length .exit)) r ⌝ }
+    ensures { λ r. ⌜ FillResult (reportCall (loaded (now (state .entry))) (now (buf .entry))) (reportBytes (loaded (now (state .entry))) (now (buf .entry))) (now (state .entry)) (now (buf .entry)) (now (buf .exit)) (now (length .entry)) (now (length .exit)) r ⌝ }
 {
     if state.len() < STATE_WORDS {
         return NO_STATE;
