@@ -11,8 +11,9 @@ use Rattle.circuit.specs.State.{rowsOf}
 use Rattle.circuit.proofs.CheckLaws.{list-round, round-list}
 use Rattle.sheet.specs.declared.Opened.{Opened}
 use Rattle.sheet.specs.Open.{openCall}
-use Rattle.sheet.specs.Write.{Whole, Faithful}
+use Rattle.sheet.specs.Write.{Whole}
 use Rattle.sheet.proofs.GrammarLaws.{sheet-taken, taken-sheet, opened-good, opened-long, unknown-bit-refused}
+use Rattle.sheet.proofs.FaithfulLaws.{faithful}
 use Rattle.circuit.specs.Round.{All}
 use Rattle.filter.specs.Leads.{Leads}
 use Rattle.filter.proofs.CallLaws.{stay, leads-on, open-none, handCall-leads, runCall-leads}
@@ -96,9 +97,8 @@ all-whole sheet limit t cs =
     let L = all-leads All (openCall sheet limit .work) cs in
     record { good = L .keeps (opened-good sheet limit t); long = L .long (opened-long sheet limit) }
 
--- TODO faithful
-pub sent-back : Faithful → (sheet : List ℕ) (limit : ℕ) → openCall sheet limit .answer ≡ card 0 → (cs : List Call) (l : ℕ) → 1 ≤ l → l ≤ 64
+pub sent-back : (sheet : List ℕ) (limit : ℕ) → openCall sheet limit .answer ≡ card 0 → (cs : List Call) (l : ℕ) → 1 ≤ l → l ≤ 64
     → SentBack (openCall sheet limit .work) cs l
-sent-back faithful sheet limit t cs l lo hi =
+sent-back sheet limit t cs l lo hi =
     let opens = faithful .opens (afterAll (openCall sheet limit .work) cs) l (all-whole sheet limit t cs) lo hi in
     record { opens = opens; drivable = λ i j d. ap (λ (o : Opened). leg (rowsOf (o .work)) i j) opens ∙ demand3 .list sheet limit t cs .drivable i j d }
