@@ -2,7 +2,7 @@
 use writer::put_byte;
 ghost use denote.Ref.{now};
 ghost use mathlib.Core.Path.{_≡_};
-ghost use mathlib.Core.List.{[], _∷_};
+ghost use mathlib.Core.List.{[]};
 ghost use Prim.Native.Nat.{_≤_, _<_, _^_};
 ghost use lib.ListN.{length};
 ghost use Rattle.writer.specs.inner.Writer.{Wrote};
@@ -11,7 +11,7 @@ ghost use Rattle.sheet.specs.Layout.{bytes, entryBytes, entriesBytes, by
 ghost use Rattle.sheet.specs.Write.{entryOf, pageOf};
 ghost use Rattle.sheet.specs.inner.Writing.{said};
 
-// The fields of a record: none, the fixed next station, or the next set.
+// The fields of a record that is written: none, the fixed next station alone, or the next set alone.
 enum Fields {
     Free,
     Fixed(u8),
@@ -34,8 +34,8 @@ fn fields_of(n: usize, legs: u64) -> Fields
 }
 
 // How many bytes the record takes: the map, and its field.
-fn fields_len(fields: Fields) -> usize
-    ensures { λ r. ⌜ (r ≡ length (entryBytes (said fields) [])) × (r ≤ 9) ⌝ }
+fn record_len(fields: Fields) -> usize
+    ensures { λ r. ⌜ r ≡ length (entryBytes (said fields) []) ⌝ }
 {
     match fields {
         Fields::Free => 1,
@@ -58,19 +58,19 @@ fn put_word(buf: &mut [u8], word: u64) -> usize
     at
 }
 
-// A record with the fixed station alone: its map, and the field.
+// The record with the fixed station: its map, and the field.
 fn put_fixed(buf: &mut [u8], station: u8) -> usize
     requires { ⌜ 2 ≤ length (now buf) ⌝ }
-    ensures { λ r. ⌜ Wrote (4 ∷ station ∷ []) (now (buf .entry)) (now (buf .exit)) r ⌝ }
+    ensures { λ r. ⌜ Wrote (entryBytes (said (Fields.Fixed station)) []) (now (buf .entry)) (now (buf .exit)) r ⌝ }
 {
     let at = put_byte(buf, 4);
     at + put_byte(&mut buf[at..], station)
 }
 
-// A record with the next set alone.
+// The record with the next set.
 fn put_next(buf: &mut [u8], set: u64) -> usize
     requires { ⌜ 9 ≤ length (now buf) ⌝ }
-    ensures { λ r. ⌜ Wrote (1 ∷ bytes 8 set []) (now (buf .entry)) (now (buf .exit)) r ⌝ }
+    ensures { λ r. ⌜ Wrote (entryBytes (said (Fields.Next set)) []) (now (buf .entry)) (now (buf .exit)) r ⌝ }
 {
     let at = put_byte(buf, 1);
     at + put_word(&mut buf[at..], set)
@@ -113,12 +113,12 @@ pub(crate) fn put_sheet(buf: &mut [u8], n: usize, rows: &[u64; 64]) -> usize
 // Its length, known before a byte is written.
 pub(crate) fn sheet_len(n: usize, rows: &[u64; 64]) -> usize
     requires { ⌜ (n ≤ 64) × Square n (now rows) ⌝ }
-    ensures { λ r. ⌜ (r ≡ length (bytesOf (pageOf n (now (rows .entry))))) × (r ≤ 577) ⌝ }
+    ensures { λ r. ⌜ r ≡ length (bytesOf (pageOf n (now (rows .entry)))) ⌝ }
 {
     let mut len = 1usize;
     let mut i = 0usize;
     while i < n {
-        len += fields_len(fields_of(n, rows[i]));
+        len += record_len(fields_of(n, rows[i]));
         i += 1;
     }
     len

@@ -26,7 +26,7 @@ start c = c .before .before .before .before .before .before .before .before
 
 room : (c : tie.Else2) → length (sheetOf (start c .args .work)) ≤ length (start c .args .buf .now)
 unfolding sheetOf
-room c = omega (arith, c .before .sheet-len .ensures .0)
+room c = omega (arith, c .before .sheet-len .ensures)
 
 is-bad-requires : tie.Need-is-bad-requires
 is-bad-requires c κs = search needs
@@ -42,7 +42,7 @@ returns-2 : tie.Need-returns-2
 unfolding sheetOf writeCall writeBytes
 returns-2 c =
     let w : Work = c .before .before .before .before .before .before .before .before .args .work in
-    good-work w (sheetOf w) _ (state-good (c .before .before .before .before .before)) (no-room (sheetOf w) _ (omega (arith, c .before .sheet-len .ensures .0)))
+    good-work w (sheetOf w) _ (state-good (c .before .before .before .before .before)) (no-room (sheetOf w) _ (omega (arith, c .before .sheet-len .ensures)))
 
 put-sheet-requires : tie.Need-put-sheet-requires
 unfolding sheetOf

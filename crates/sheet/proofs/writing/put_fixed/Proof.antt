@@ -1,6 +1,7 @@
 -- `sheet::writing::put_fixed` meets its contract: the map, and after it the station. Assumes nothing.
 use borrow.Author.Needs.{needs}
 use Rattle.writer.proofs.WriterLaws.{wrote-then}
+use Rattle.sheet.specs.Layout.{mapOf, entryBytes}
 use Rattle.sheet.proofs.writing.put_fixed.Statement.{statement}
 use Rattle.sheet.proofs.writing.put_fixed.Tie as tie
 
@@ -26,6 +27,7 @@ same-length : tie.Need-same-length
 same-length c = search needs
 
 returns : tie.Need-returns
+unfolding mapOf entryBytes
 returns c = wrote-then (c .before .before .before .before .before .before .put-byte .ensures) (c .before .before .put-byte2 .ensures)
 
 pub put-fixed-spec : {M : Type 1} → statement M

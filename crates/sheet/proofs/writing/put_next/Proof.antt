@@ -4,6 +4,7 @@ use mathlib.Core.List.{[]}
 use Prim.Native.Nat.{ℕ}
 use native.Mathlib.Omega.{arith}
 use Rattle.writer.proofs.WriterLaws.{wrote-then}
+use Rattle.sheet.specs.Layout.{mapOf, entryBytes}
 use Rattle.sheet.proofs.ReadLaws.{length-bytes}
 use Rattle.sheet.proofs.writing.put_next.Statement.{statement}
 use Rattle.sheet.proofs.writing.put_next.Tie as tie
@@ -32,6 +33,7 @@ same-length : tie.Need-same-length
 same-length c = search needs
 
 returns : tie.Need-returns
+unfolding mapOf entryBytes
 returns c = wrote-then (c .before .before .before .before .before .before .put-byte .ensures) (c .before .before .put-word .ensures)
 
 pub put-next-spec : {M : Type 1} → statement M

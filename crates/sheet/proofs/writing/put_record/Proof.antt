@@ -30,21 +30,19 @@ same-length : tie.Need-same-length
 same-length c = search needs
 
 returns : tie.Need-returns
-unfolding entryBytes mapOf
+unfolding mapOf entryBytes
 returns c = rw (c .before .before .before .before .enum-told .given .1) (c .before .before .put-byte .ensures)
 
 same-length-2 : tie.Need-same-length-2
 same-length-2 c = search needs
 
 returns-2 : tie.Need-returns-2
-unfolding entryBytes mapOf
 returns-2 c = rw (c .before .before .before .before .before .fields .given .1) (c .before .before .put-fixed .ensures)
 
 same-length-3 : tie.Need-same-length-3
 same-length-3 c = search needs
 
 returns-3 : tie.Need-returns-3
-unfolding entryBytes mapOf
 returns-3 c = rw (c .before .before .before .before .before .fields2 .given .1) (c .before .before .put-next .ensures)
 
 pub put-record-spec : {M : Type 1} → statement M

@@ -10,6 +10,7 @@ use Rattle.bitset.specs.Upto.{row}
 use Rattle.sheet.specs.Layout.{Entry, entryBytes, bytesOf}
 use Rattle.sheet.specs.Write.{entryOf, pageOf}
 use Rattle.sheet.proofs.WriteLaws.{recordsFrom, records-more, records-all}
+use Rattle.sheet.proofs.WrittenSizeLaws.{entry-most}
 use Rattle.sheet.proofs.writing.sheet_len.Statement.{statement}
 use Rattle.sheet.proofs.writing.sheet_len.Tie as tie
 
@@ -34,11 +35,34 @@ fields-of-requires c κs =
     let start = c .before .before .before in
     (omega arith, start .pre .0, start .pre .1 (c .before .before .loop .i) (omega arith))
 
-fields-len-requires : tie.Need-fields-len-requires Inv-loop μ-loop
-fields-len-requires c κs = search needs
+record-len-requires : tie.Need-record-len-requires Inv-loop μ-loop
+record-len-requires c κs = search needs
+
+-- a turn counts the bytes of the record of station i
+module _ (c : tie.After-record-len Inv-loop μ-loop) where
+  abbrev start : tie.Start Inv-loop μ-loop
+  start = c .before .before .before .before .before
+
+  abbrev n : ℕ
+  n = start .args .n
+
+  abbrev rows : List ℕ
+  rows = start .args .rows .now
+
+  abbrev i : ℕ
+  i = c .before .before .before .before .loop .i
+
+  abbrev bytes : List ℕ
+  bytes = entryBytes (entryOf n (row rows i)) []
+
+  counted : c .record-len .result ≡ length bytes
+  counted = c .record-len .ensures ∙ ap (λ (e : Entry). length (entryBytes e [])) (c .before .fields-of .ensures)
+
+  few : c .record-len .result ≤ 9
+  few = omega (arith, counted, entry-most n (row rows i))
 
 add-len : tie.Need-add-len Inv-loop μ-loop
-add-len c = omega (arith, c .fields-len .ensures .1)
+add-len c = omega (arith, few c)
 
 add-i : tie.Need-add-i Inv-loop μ-loop
 add-i c = search needs
@@ -48,22 +72,15 @@ loop-less c = search needs
 
 loop-again : tie.Need-loop-again Inv-loop μ-loop
 loop-again c =
-    let start = c .before .before .before .before .before in
-    let n : ℕ = start .args .n in
-    let rows : List ℕ = start .args .rows .now in
-    let i : ℕ = c .before .before .before .before .loop .i in
-    let bytes : List ℕ = entryBytes (entryOf n (row rows i)) [] in
-    let len : c .fields-len .result ≡ length bytes = c .fields-len .ensures .0 ∙ ap (λ (e : Entry). length (entryBytes e [])) (c .before .fields-of .ensures) in
-    let more = records-more n rows i (omega arith) in
-    (omega arith, omega (arith, c .fields-len .ensures .1), omega (arith, len, ap length more, length-append bytes (recordsFrom n rows (i + 1))))
+    let more = records-more (n c) (rows c) (i c) (omega arith) in
+    (omega arith, omega (arith, few c), omega (arith, counted c, ap length more, length-append (bytes c) (recordsFrom (n c) (rows c) (i c + 1))))
 
 returns : tie.Need-returns Inv-loop μ-loop
 returns c =
-    let start = c .before .before in
-    let all = records-all (start .args .n) (start .args .rows .now) (c .before .loop .i) (omega arith) in
-    (omega (arith, ap length all), omega arith)
+    let all = records-all (c .before .before .args .n) (c .before .before .args .rows .now) (c .before .loop .i) (omega arith) in
+    omega (arith, ap length all)
 
 pub sheet-len-spec : {M : Type 1} → statement M
 sheet-len-spec =
     tie.close
-    (tie.spec Inv-loop μ-loop loop-holds mul-fields-of element-copy-out-fields-of fields-of-requires fields-len-requires add-len add-i loop-less loop-again returns)
+    (tie.spec Inv-loop μ-loop loop-holds mul-fields-of element-copy-out-fields-of fields-of-requires record-len-requires add-len add-i loop-less loop-again returns)
