@@ -111,7 +111,7 @@ impl Counts {
                 }
             }
             Answer::Checked(checked) => self.rounds_confirmed += u64::from(checked.yes),
-            Answer::Opened(_) | Answer::Reported(..) => {}
+            Answer::Opened(_) | Answer::Filled(..) => {}
         }
     }
 }

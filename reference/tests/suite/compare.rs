@@ -6,12 +6,11 @@ use reference::compare::{compare_sheet, Counts};
 use reference::gen::{any_table, Sheet, Xorshift};
 use reference::graph::{inner, levels, unreached};
 use reference::hand::{self, Handled};
-use reference::lines::Reported;
 use reference::list::Checked;
 use reference::run::Ran;
 use reference::sheet::Opened;
 use reference::state::last_place;
-use reference::{card, open, program, Calls, End, Fast, WorkState};
+use reference::{card, open, program, Calls, End, Fast, Filled, WorkState};
 
 #[test]
 fn fast_calls_differ_nowhere() {
@@ -270,7 +269,7 @@ impl Calls for Faulty {
         checked
     }
 
-    fn report(&self, state: &WorkState, buffer: &mut [u8]) -> Reported {
+    fn report(&self, state: &WorkState, buffer: &mut [u8]) -> Filled {
         let reported = Fast.report(state, buffer);
         let end = reported.length as usize;
         if matches!(self.0, Fault::WritesBehindText) && end > 0 && end < buffer.len() {
@@ -279,7 +278,11 @@ impl Calls for Faulty {
         reported
     }
 
-    fn print(&self, sheet: &[u8], buffer: &mut [u8]) -> Reported {
+    fn write(&self, state: &WorkState, buffer: &mut [u8]) -> Filled {
+        Fast.write(state, buffer)
+    }
+
+    fn print(&self, sheet: &[u8], buffer: &mut [u8]) -> Filled {
         let mut printed = Fast.print(sheet, buffer);
         if matches!(self.0, Fault::PrintsWhatFits) && printed.number == 10 {
             let text = program::output(&Fast, sheet);
