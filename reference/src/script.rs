@@ -87,14 +87,14 @@ impl Script {
     }
 
     pub fn report(&mut self, length: usize) {
-        self.into_buffer(b'T', length, LONGEST_REPORT);
+        self.buffered(b'T', length, LONGEST_REPORT);
     }
 
     pub fn write(&mut self, length: usize) {
-        self.into_buffer(b'B', length, LONGEST_WRITE);
+        self.buffered(b'B', length, LONGEST_WRITE);
     }
 
-    fn into_buffer(&mut self, opcode: u8, length: usize, longest: u16) {
+    fn buffered(&mut self, opcode: u8, length: usize, longest: u16) {
         let length = u16::try_from(length).expect("at most 65,535 bytes");
         assert!(length <= longest);
         self.bytes.push(opcode);

@@ -14,6 +14,7 @@ use crate::state::WorkState;
 #[derive(Clone, Debug)]
 pub enum Call {
     Open { limit: u64 },
+    OpenWritten { limit: u64, sheet: Vec<u8> },
     Sweep,
     Chain,
     Pass { seed: u64 },
@@ -35,10 +36,11 @@ pub enum Answer {
 }
 
 impl Call {
-    /// Makes the call on a state; an opening and a print take the sheet instead.
+    /// Makes the call on a state; an opening and a print take a sheet instead.
     pub fn make(&self, calls: &dyn Calls, sheet: &[u8], state: &WorkState) -> Answer {
         match self {
             Call::Open { limit } => Answer::Opened(calls.open(sheet, *limit)),
+            Call::OpenWritten { limit, sheet } => Answer::Opened(calls.open(sheet, *limit)),
             Call::Sweep => Answer::Handled(calls.sweep(*state)),
             Call::Chain => Answer::Handled(calls.chain(*state)),
             Call::Pass { seed } => Answer::Handled(calls.pass(*state, *seed)),
@@ -70,6 +72,14 @@ impl Answer {
         Answer::filled(length, |buffer| fill(text.as_bytes(), buffer))
     }
 
+    /// The bytes of the buffer that are told to be filled.
+    pub fn written(&self) -> &[u8] {
+        match self {
+            Answer::Filled(filled, buffer) => &buffer[..filled.length as usize],
+            _ => &[],
+        }
+    }
+
     pub fn number(&self) -> Number {
         match self {
             Answer::Opened(opened) => opened.number,
@@ -95,6 +105,9 @@ impl fmt::Display for Call {
     fn fmt(&self, out: &mut fmt::Formatter) -> fmt::Result {
         match self {
             Call::Open { limit } => write!(out, "open with limit {limit}"),
+            Call::OpenWritten { limit, .. } => {
+                write!(out, "open what was written with limit {limit}")
+            }
             Call::Sweep => write!(out, "sweep"),
             Call::Chain => write!(out, "chain step"),
             Call::Pass { seed } => write!(out, "pass with seed {seed}"),
