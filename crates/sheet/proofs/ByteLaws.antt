@@ -21,7 +21,7 @@ fixed-size : (o : Option ℕ) (r : List ℕ) → length (fixedBytes o r) ≡ len
 fixed-size none r = omega arith
 fixed-size (some v) r = omega arith
 
-entry-size : (e : Entry) (r : List ℕ) → length (entryBytes e r) ≡ length (entryBytes e []) + length r
+pub entry-size : (e : Entry) (r : List ℕ) → length (entryBytes e r) ≡ length (entryBytes e []) + length r
 unfolding entryBytes
 entry-size e r =
     let f = fixedBytes (e .fixed) r in

@@ -72,7 +72,7 @@ module _ (n i : ℕ) (next barred : List ℕ) (le : n ≤ 64) (h : i < 64) where
       (below? i n)
 
 -- a table by its legs between stations below n
-tableOf-ext : (n : ℕ) (p q : ℕ → ℕ → Bool) → ((i j : ℕ) → i < n → j < n → p i j ≡ q i j) → tableOf n p ≡ tableOf n q
+pub tableOf-ext : (n : ℕ) (p q : ℕ → ℕ → Bool) → ((i j : ℕ) → i < n → j < n → p i j ≡ q i j) → tableOf n p ≡ tableOf n q
 unfolding tableOf
 tableOf-ext n p q f =
     upto-cong 64 (λ i. cond (ltb i n) (setOf n (p i)) 0) (λ i. cond (ltb i n) (setOf n (q i)) 0) (λ i _.
