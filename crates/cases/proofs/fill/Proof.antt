@@ -26,6 +26,9 @@ stop-requires-2 c κs = search needs
 returns-2 : tie.Need-returns-2
 returns-2 c = search needs
 
+shared-slice-read-opcode : tie.Need-shared-slice-read-opcode
+shared-slice-read-opcode c = search needs
+
 filled-requires : tie.Need-filled-requires
 filled-requires c κs = search needs
 
@@ -34,7 +37,7 @@ array-borrow-prefix-buf c = search needs
 
 slice-aggregate-print-filled : tie.Need-slice-aggregate-print-filled
 slice-aggregate-print-filled c =
-    let h : c .before .before .before .read-u16 .result ≤ length (c .before .filled .result) = omega arith in
+    let h : c .before .before .before .before .read-u16 .result ≤ length (c .before .filled .result) = omega arith in
     sym (length-take _ _ ∙ min-eq-left h)
 
 print-filled-requires : tie.Need-print-filled-requires
@@ -53,6 +56,7 @@ fill-spec =
     cast-len
     stop-requires-2
     returns-2
+    shared-slice-read-opcode
     filled-requires
     array-borrow-prefix-buf
     slice-aggregate-print-filled
