@@ -35,7 +35,7 @@ enum loungeegret_number {
     LOUNGEEGRET_BAD_WORK = 7,      /* bad work state */
     LOUNGEEGRET_STRAY_SEED = 8,    /* the seed is 0 or above n */
     LOUNGEEGRET_WRONG_LENGTH = 9,  /* the list has not n numbers */
-    LOUNGEEGRET_NO_ROOM = 10,      /* the buffer is shorter than the text */
+    LOUNGEEGRET_NO_ROOM = 10,      /* the buffer is shorter than the text or the sheet */
     LOUNGEEGRET_NO_STATE = 100     /* the lent words are fewer than LOUNGEEGRET_STATE_WORDS */
 };
 
@@ -59,11 +59,13 @@ enum loungeegret_end {
 };
 
 /*
- * The length of the longest sheet (proved: sheet-most), of the longest station lines, those of all legs of 64 stations
- * (longest-text), and a length that suffices for everything that the program prints (program-most).
+ * The length of the longest sheet (proved: sheet-most), of the longest sheet that is written (written-most), of the longest station
+ * lines, those of all legs of 64 stations (longest-text), and a length that suffices for everything that the program prints
+ * (program-most).
  */
 enum {
     LOUNGEEGRET_SHEET_MOST = 1153,
+    LOUNGEEGRET_WRITTEN_MOST = 577,
     LOUNGEEGRET_TEXT_MOST = 11776,
     LOUNGEEGRET_PRINT_MOST = 11835
 };
@@ -122,6 +124,17 @@ uint32_t loungeegret_check_list(const uint64_t *state, size_t state_length,
  */
 uint32_t loungeegret_report(const uint64_t *state, size_t state_length,
                             uint8_t *buf, size_t buf_length, size_t *length);
+
+/*
+ * Writes the sheet of what is left to the start of the buffer; bytes after it keep their contents. `*length` is its length. A
+ * station's record has no field where all its n - 1 legs stand; otherwise, where exactly one stands, the fixed field; otherwise the
+ * next set. The same n and table give the same bytes, and opening them gives that n and table again; place, mark, end and limit are
+ * not part of the sheet. A refused call, for a bad state or, after that, where the buffer is shorter than the sheet, writes nothing
+ * to the buffer, and its length is 0. Look at state[LOUNGEEGRET_END] first: where it is LOUNGEEGRET_NONE there is no round, and the
+ * sheet, which can be written all the same, does not say so.
+ */
+uint32_t loungeegret_write(const uint64_t *state, size_t state_length,
+                           uint8_t *buf, size_t buf_length, size_t *length);
 
 /*
  * The whole program in one call: opens the sheet with limit 64, runs with budget 300000, and writes what the program prints to the

@@ -1,23 +1,26 @@
--- The demands hold. Assumes nothing.
+-- The demands hold, and what they say of the sheet that is sent back. Assumes nothing.
 use mathlib.Core.Path.{_≡_, refl, sym, ap, _∙_}
 use mathlib.Core.Logic.{⊎-elim}
 use mathlib.Core.List.{List, [], _∷_, _++_}
-use Prim.Native.Nat.{ℕ}
+use Prim.Native.Nat.{ℕ, _≤_}
 use Rattle.circuit.specs.declared.card.End.the-variants.{Open}
 use Rattle.circuit.specs.declared.state.Work.{Work}
+use Rattle.circuit.specs.Card.{card}
 use Rattle.circuit.specs.Legs.{leg}
 use Rattle.circuit.specs.State.{rowsOf}
 use Rattle.circuit.proofs.CheckLaws.{list-round, round-list}
 use Rattle.sheet.specs.declared.Opened.{Opened}
 use Rattle.sheet.specs.Open.{openCall}
-use Rattle.sheet.proofs.GrammarLaws.{sheet-taken, taken-sheet, unknown-bit-refused}
+use Rattle.sheet.specs.Write.{Whole}
+use Rattle.sheet.proofs.GrammarLaws.{sheet-taken, taken-sheet, opened-good, opened-long, unknown-bit-refused}
+use Rattle.sheet.proofs.FaithfulLaws.{faithful}
 use Rattle.circuit.specs.Round.{All}
 use Rattle.filter.specs.Leads.{Leads}
 use Rattle.filter.proofs.CallLaws.{stay, leads-on, open-none, handCall-leads, runCall-leads}
 use Rattle.filter.proofs.RunLaws.{budgets, run-bad}
-use Rattle.demands.specs.Sequence.{Call, calling, running, checking, reporting, handed, afterAll}
-use Rattle.demands.specs.Demands.{Demand1, Demand2, Kept, Demand3}
-use Rattle.demands.proofs.RefusalLaws.{opening-refused, hand-refused, run-refused, list-refused, report-refused}
+use Rattle.demands.specs.Sequence.{Call, calling, running, checking, reporting, writing, handed, afterAll}
+use Rattle.demands.specs.Demands.{Demand1, Demand2, Kept, Demand3, SentBack}
+use Rattle.demands.proofs.RefusalLaws.{opening-refused, hand-refused, run-refused, list-refused, report-refused, write-refused}
 use Rattle.demands.proofs.CountLaws.{hand-removed, run-removed, steps-most, open-spent}
 
 -- ---- a list of calls
@@ -28,6 +31,7 @@ handed-leads P w (calling r) = handCall-leads P w r
 handed-leads P w (running budget) = runCall-leads P w budget
 handed-leads P w (checking list) = stay P w
 handed-leads P w (reporting buffer) = stay P w
+handed-leads P w (writing buffer) = stay P w
 
 pub all-leads : (P : (ℕ → ℕ) → Type 0) (w : Work) (cs : List Call) → Leads P w (afterAll w cs)
 unfolding afterAll
@@ -62,6 +66,7 @@ demand1 =
       run = run-refused;
       list = list-refused;
       report = report-refused;
+      write = write-refused;
     }
 
 pub demand2 : Demand2
@@ -84,3 +89,16 @@ demand3 =
       budgets = budgets;
       refused = run-bad;
     }
+
+-- ---- the sheet that is sent back
+
+all-whole : (sheet : List ℕ) (limit : ℕ) → openCall sheet limit .answer ≡ card 0 → (cs : List Call) → Whole (afterAll (openCall sheet limit .work) cs)
+all-whole sheet limit t cs =
+    let L = all-leads All (openCall sheet limit .work) cs in
+    record { good = L .keeps (opened-good sheet limit t); long = L .long (opened-long sheet limit) }
+
+pub sent-back : (sheet : List ℕ) (limit : ℕ) → openCall sheet limit .answer ≡ card 0 → (cs : List Call) (l : ℕ) → 1 ≤ l → l ≤ 64
+    → SentBack (openCall sheet limit .work) cs l
+sent-back sheet limit t cs l lo hi =
+    let opens = faithful .opens (afterAll (openCall sheet limit .work) cs) l (all-whole sheet limit t cs) lo hi in
+    record { opens = opens; drivable = λ i j d. ap (λ (o : Opened). leg (rowsOf (o .work)) i j) opens ∙ demand3 .list sheet limit t cs .drivable i j d }

@@ -1,23 +1,23 @@
 -- What a refused call hands back. Assumes nothing.
 use mathlib.Core.Path.{_≡_, refl}
-use mathlib.Core.Logic.{⊎-elim}
-use mathlib.Core.Bool.{true, false, not, cond}
+use mathlib.Core.Bool.{false, not, cond}
 use mathlib.Core.List.{List}
 use Prim.Native.Nat.{ℕ}
 use lib.Dec.{eqb, ltb}
 use lib.ListN.{length}
 use Rattle.bitset.specs.Sets.{outside}
-use Rattle.bitset.proofs.BoolLaws.{cases, cond-elim}
+use Rattle.bitset.proofs.BoolLaws.{cond-elim}
 use Rattle.circuit.specs.declared.card.Answer.the-variants.{Taken, BadLimit, BadWork, StraySeed, WrongLength}
 use Rattle.circuit.specs.declared.list.Checked.{Checked}
 use Rattle.circuit.specs.declared.state.Work.{Work}
 use Rattle.circuit.specs.declared.verdict.Verdict.{Verdict}
 use Rattle.circuit.specs.State.{isNone, rowsOf, blank, bad}
 use Rattle.circuit.specs.Check.{isList, checkCall}
+use Rattle.circuit.proofs.FillLaws.{fill-refused}
 use Rattle.sheet.specs.declared.Opened.{Opened}
 use Rattle.sheet.specs.Layout.{Page}
 use Rattle.sheet.specs.Open.{Got, got, fault, readPage, refused, opened, openCall}
-use Rattle.writer.specs.Lent.{short, written}
+use Rattle.sheet.specs.Write.{sheetOf, writeCall, writeBytes}
 use Rattle.report.specs.Lines.{text, reportCall, reportBytes}
 use Rattle.filter.specs.declared.rule.Rule.{Rule}
 use Rattle.filter.specs.declared.hand.Called.{Called}
@@ -61,7 +61,7 @@ unfolding runCall
 run-refused w budget =
     cond-elim (λ (r : Ran). Refusal (r .answer) → r ≡ idle (r .answer) w) (bad w) (idle BadWork w) (runFrom budget w) (λ _ _. refl) (λ _ h. absurd (h (run-taken budget w)))
 
--- ---- the list check and the report
+-- ---- the list check, the report and the sheet written back
 
 pub list-refused : (w : Work) (s : List ℕ) → Refusal (checkCall w s .answer) → checkCall w s .yes ≡ false
 unfolding checkCall
@@ -76,7 +76,9 @@ list-refused w s =
     yes = record { answer = Taken; yes = isList (w .n) (rowsOf w) s }
 
 pub report-refused : (w : Work) (buffer : List ℕ) → Refusal (reportCall w buffer .answer) → (reportCall w buffer .len ≡ 0) × (reportBytes w buffer ≡ buffer)
-unfolding reportCall reportBytes written
-report-refused w buffer h =
-    ⊎-elim (λ (e : bad w ≡ true). (rw e, rw e)) (λ (e : bad w ≡ false).
-    ⊎-elim (λ (s : short (text w) buffer ≡ true). (rw (e, s), rw (e, s))) (λ (s : short (text w) buffer ≡ false). absurd (h (rw (e, s)))) (cases (short (text w) buffer))) (cases (bad w))
+unfolding reportCall reportBytes
+report-refused w buffer = fill-refused w (text w) buffer
+
+pub write-refused : (w : Work) (buffer : List ℕ) → Refusal (writeCall w buffer .answer) → (writeCall w buffer .len ≡ 0) × (writeBytes w buffer ≡ buffer)
+unfolding writeCall writeBytes
+write-refused w buffer = fill-refused w (sheetOf w) buffer

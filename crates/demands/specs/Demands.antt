@@ -9,11 +9,12 @@ use Rattle.circuit.specs.declared.state.Work.{Work}
 use Rattle.circuit.specs.Card.{card, ending}
 use Rattle.circuit.specs.Legs.{leg, legs, Subtable}
 use Rattle.circuit.specs.Round.{RoundOf, Drivable}
-use Rattle.circuit.specs.State.{rowsOf, blank, bad, Good}
+use Rattle.circuit.specs.State.{rowsOf, blank, fresh, bad, Good}
 use Rattle.circuit.specs.Check.{checkCall, ListsRound}
 use Rattle.sheet.specs.Layout.{Entry, Page, entriesBytes, bytesOf, EntryFits, WellFormed}
 use Rattle.bitset.specs.Upto.{Each}
 use Rattle.sheet.specs.Open.{refused, openedPage, openCall, TakenSheet}
+use Rattle.sheet.specs.Write.{sheetOf, writeCall, writeBytes}
 use Rattle.report.specs.Lines.{reportCall, reportBytes}
 use Rattle.filter.specs.declared.rule.Rule.{Rule}
 use Rattle.filter.specs.Calls.{unchanged, handCall, idle, runCall}
@@ -43,6 +44,8 @@ pub record Demand1 : Type 0 where
   pub list : (w : Work) (s : List ℕ) → Refusal (checkCall w s .answer) → checkCall w s .yes ≡ false
   -- a refused report has length 0 and changes no byte
   pub report : (w : Work) (buffer : List ℕ) → Refusal (reportCall w buffer .answer) → (reportCall w buffer .len ≡ 0) × (reportBytes w buffer ≡ buffer)
+  -- a refused writing of the sheet has length 0 and changes no byte
+  pub write : (w : Work) (buffer : List ℕ) → Refusal (writeCall w buffer .answer) → (writeCall w buffer .len ≡ 0) × (writeBytes w buffer ≡ buffer)
 
 -- Demand 2: the calls' complete results are the equations that they promise; this is what those say of removals, steps and rounds
 pub record Demand2 : Type 0 where
@@ -74,3 +77,10 @@ pub record Demand3 : Type 0 where
   pub budgets : (w : Work) (a b : ℕ) → a ≤ b → Budgets w a b
   -- a bad state is refused under every budget and comes back as it was
   pub refused : (w : Work) (budget : ℕ) → bad w ≡ true → runCall w budget ≡ idle (card 7) w
+
+-- of the list of calls cs, from the opened state w: the sheet of what is left, sent back and opened with a good limit l
+pub record SentBack (w : Work) (cs : List Call) (l : ℕ) : Type 0 where
+  -- it is taken, and gives the n and the table that are left
+  pub opens : openCall (sheetOf (afterAll w cs)) l ≡ record { answer = card 0; at = 0; work = fresh (afterAll w cs .n) (rowsOf (afterAll w cs)) l }
+  -- every leg that was drivable in the opened table stands in that table
+  pub drivable : (i j : ℕ) → Drivable (w .n) (rowsOf w) i j → leg (rowsOf (openCall (sheetOf (afterAll w cs)) l .work)) i j ≡ true

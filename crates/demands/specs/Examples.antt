@@ -1,4 +1,4 @@
--- Rounds from the depot wall: the items with ◆ as one list, with the step counts of W-201, and beside them what W-201 and W-202 were asked for.
+-- Rounds from the depot wall: the items with ◆ as one list, with the step counts of W-201, and beside them what W-201, W-202 and W-204 were asked for.
 use mathlib.Core.Bool.{Bool, true, false, _&&_, _||_, Bool·beq}
 use mathlib.Core.List.{List, [], _∷_}
 use Prim.Native.Nat.{ℕ, suc}
@@ -15,6 +15,7 @@ use Rattle.circuit.specs.Legs.{tableOf, without, legs}
 use Rattle.circuit.specs.State.{isNone, rowsOf, fresh}
 use Rattle.circuit.specs.Check.{checkCall}
 use Rattle.sheet.specs.Open.{openCall}
+use Rattle.sheet.specs.Write.{sheetOf}
 use Rattle.filter.specs.Calls.{sweepCall, chainCall, passCall, runCall}
 
 -- a leg as the paper writes it: stations from 1
@@ -42,6 +43,8 @@ pub data Example : Type 0 where
   lists : Start → List ℕ → Bool → Example
   -- the sheet is refused with the number, at the place
   refuses : List ℕ → ℕ → ℕ → Example
+  -- the sheet written back has exactly these bytes
+  writes : Start → List ℕ → Example
 
 -- ---- what an example says
 
@@ -78,6 +81,7 @@ holds (passes s seed ls none) = let w = begun s in removes w (passCall w seed) l
 holds (runs s steps end) = let r = runCall (begun s) budget in isNumber 0 (r .answer) && eqb (r .steps) steps && isWord end (r .work .end)
 holds (lists s numbers round) = let r = checkCall (begun s) numbers in isNumber 0 (r .answer) && Bool·beq (r .yes) round
 holds (refuses s k at) = let r = openCall s 64 in isNumber k (r .answer) && eqb (r .at) at
+holds (writes s bytes) = let r = sheetOf (begun s) in eqb (length r) (length bytes) && all (length bytes) (λ i. eqb (row r i) (row bytes i))
 
 -- each item of the list holds
 unfoldable pub every : List Example → Bool
@@ -121,7 +125,15 @@ unfoldable pub twoIslands : Start
 twoIslands =
     table 6 (leg 1 2 ∷ leg 1 3 ∷ leg 2 1 ∷ leg 2 3 ∷ leg 3 1 ∷ leg 3 2 ∷ leg 4 5 ∷ leg 4 6 ∷ leg 5 4 ∷ leg 5 6 ∷ leg 6 4 ∷ leg 6 5 ∷ [])
 
--- the items with ◆, then those of W-201, and last those of W-202
+-- both legs of two
+unfoldable pub bothOfTwo : Start
+bothOfTwo = table 2 (leg 1 2 ∷ leg 2 1 ∷ [])
+
+-- of three stations the first has one leg, the second both and the third none
+unfoldable pub oneEmptied : Start
+oneEmptied = table 3 (leg 1 2 ∷ leg 2 1 ∷ leg 2 3 ∷ [])
+
+-- the items with ◆, then those of W-201, those of W-202, and last those of W-204
 unfoldable pub examples : List Example
 examples =
     sweeps (sheet nineLegs 64) (leg 1 2 ∷ leg 1 3 ∷ leg 2 1 ∷ [])
@@ -143,4 +155,7 @@ examples =
     ∷ passes (sheet twoRings 1) 1 [] true
     ∷ passes twoIslands 1 [] true
     ∷ runs twoIslands 3 "none"
+    ∷ writes (sheet nineLegs 64) nineLegs
+    ∷ writes bothOfTwo (2 ∷ 0 ∷ 0 ∷ [])
+    ∷ writes oneEmptied (3 ∷ 4 ∷ 2 ∷ 0 ∷ 1 ∷ 0 ∷ 0 ∷ 0 ∷ 0 ∷ 0 ∷ 0 ∷ 0 ∷ 0 ∷ [])
     ∷ []

@@ -1,7 +1,7 @@
 -- Sequences of calls, the demands of the paper, and its examples.
--- What must be believed of the whole, in reading order, each in specs/ of its crate: bitset Sets, Upto; circuit Card, Legs, Round, State, Check,
--- Verdict; sheet Layout, Open, Sizes; writer Text, Lent; report Lines, Sizes; separator Levels, Components, Level; filter Sweep, Chain, Pass, Rule, Calls,
--- Leads; and the first three files here: some 870 lines without imports and blank lines, and 100 for the examples.
+-- What must be believed of the whole, in reading order, each in specs/ of its crate: bitset Sets, Upto; writer Text, Lent; circuit Card, Legs, Round,
+-- State, Check, Fill, Verdict; sheet Layout, Open, Write, Sizes; report Lines, Sizes; separator Levels, Components, Level; filter Sweep, Chain, Pass, Rule,
+-- Calls, Leads; and the first three files here: some 950 lines without imports and blank lines, and 120 for the examples.
 pub mod Sequence
 pub mod Demands
 pub mod Examples

@@ -5,25 +5,21 @@ use mathlib.Core.Bool.{true, false}
 use mathlib.Core.List.{List, [], _∷_}
 use Prim.Native.Nat.{ℕ, _≤_}
 use native.Mathlib.Omega.{arith}
-use lib.ListN.{length, drop, length-append, length-replicate}
+use lib.ListN.{length, drop, length-append}
 use lib.Seq.{drop-at}
 use borrow.Author.Tests.{le-ltb}
-use Rattle.bitset.specs.Sets.{outside}
-use Rattle.bitset.proofs.BoolLaws.{cases, not-both, cond-elim, cond-true, cond-false}
+use Rattle.bitset.proofs.BoolLaws.{cases, not-both, cond-true, cond-false}
 use Rattle.circuit.specs.declared.card.Answer.{Answer}
-use Rattle.circuit.specs.declared.card.Answer.the-variants.{BadLimit}
 use Rattle.circuit.specs.declared.state.Work.{Work}
 use Rattle.circuit.specs.State.{rowsOf}
-use Rattle.circuit.proofs.LegsLaws.{length-tableOf}
-use Rattle.sheet.specs.declared.Opened.{Opened}
-use Rattle.sheet.specs.Layout.{Page, given}
-use Rattle.sheet.specs.Open.{Got, got, fault, readPage, refused, opened, openCall}
+use Rattle.sheet.specs.Open.{openCall}
+use Rattle.sheet.proofs.GrammarLaws.{opened-long}
 use Rattle.filter.specs.declared.hand.Called.{Called}
 use Rattle.filter.specs.declared.cycle.Ran.{Ran}
 use Rattle.filter.specs.Calls.{handCall, runCall}
 use Rattle.circuit.specs.Round.{All}
 use Rattle.filter.proofs.CallLaws.{handCall-leads, runCall-leads}
-use Rattle.demands.specs.Sequence.{Call, calling, running, checking, reporting, handed, afterAll}
+use Rattle.demands.specs.Sequence.{Call, calling, running, checking, reporting, writing, handed, afterAll}
 use Rattle.demands.specs.Demands.{Refusal}
 use Rattle.demands.proofs.RefusalLaws.{hand-refused, run-refused}
 use Rattle.loungeegret.specs.Words.{stateWords, loaded, stored, storedIn}
@@ -81,21 +77,12 @@ handed-holds o s w H (running budget) =
     (λ e. ap (λ (c : Ran). c .work) (run-refused w budget (refusal (runCall w budget .answer) e))) (runCall-leads All w budget .long (H .long)))
 handed-holds o s w H (checking list) = H
 handed-holds o s w H (reporting buffer) = H
+handed-holds o s w H (writing buffer) = H
 
 all-hold : (o s : List ℕ) (w : Work) → Holds o s w → (cs : List Call) → Holds o (wordsAll s cs) (afterAll w cs)
 unfolding wordsAll afterAll
 all-hold o s w H [] = H
 all-hold o s w H (c ∷ cs) = all-hold o (wordsHanded s c) (handed w c) (handed-holds o s w H c) cs
-
-read-long : (len limit : ℕ) (g : Got Page) → length (rowsOf (opened len limit g .work)) ≡ 64
-unfolding opened
-read-long len limit (fault c s) = length-replicate {A = ℕ} 64 0
-read-long len limit (got p s) = length-tableOf (p .stations) (given p)
-
-opened-long : (sheet : List ℕ) (limit : ℕ) → length (rowsOf (openCall sheet limit .work)) ≡ 64
-unfolding openCall
-opened-long sheet limit =
-    cond-elim (λ (o : Opened). length (rowsOf (o .work)) ≡ 64) (outside 1 64 limit) (refused BadLimit 0) (opened (length sheet) limit (readPage sheet)) (λ _. length-replicate {A = ℕ} 64 0) (λ _. read-long (length sheet) limit (readPage sheet))
 
 pub in-sequence : (s sheet : List ℕ) (limit : ℕ) → stateWords ≤ length s → (cs : List Call) → InSequence s sheet limit cs
 unfolding openedWords

@@ -12,10 +12,10 @@ use Rattle.sheet.specs.declared.Opened.{Opened}
 use Rattle.filter.specs.declared.hand.Called.{Called}
 use Rattle.filter.specs.declared.cycle.Ran.{Ran}
 use Rattle.circuit.specs.declared.list.Checked.{Checked}
-use Rattle.report.specs.declared.Reported.{Reported}
+use Rattle.circuit.specs.declared.filled.Filled.{Filled}
 use Rattle.circuit.specs.Card.{number}
+use Rattle.circuit.specs.Fill.{filled}
 use Rattle.writer.specs.Lent.{written}
-use Rattle.output.specs.Program.{printed}
 use Rattle.loungeegret.specs.Words.{tooFew, storedIn}
 
 -- the number of a call on too few words for a state; no answer of the card has it
@@ -58,14 +58,14 @@ pub record CheckResult (c : Checked) (s : List ℕ) (y y₁ r : ℕ) : Type 0 wh
   pub number : r ≡ onState s noState (number (c .answer))
   pub yes : y₁ ≡ onState s y (digit (c .yes))
 
--- the report, which makes t of the lent bytes b
-pub record ReportResult (c : Reported) (t s b b₁ : List ℕ) (l l₁ r : ℕ) : Type 0 where
+-- a call that fills a lent buffer and makes t of its bytes b: the report, and the sheet written back
+pub record FillResult (c : Filled) (t s b b₁ : List ℕ) (l l₁ r : ℕ) : Type 0 where
   pub number : r ≡ onState s noState (number (c .answer))
   pub bytes : b₁ ≡ onState s b t
   pub len : l₁ ≡ onState s l (c .len)
 
 -- the program's text t for a sheet; no state is lent
 pub record PrintResult (t b b₁ : List ℕ) (l₁ r : ℕ) : Type 0 where
-  pub number : r ≡ number (printed t b .answer)
+  pub number : r ≡ number (filled t b .answer)
   pub bytes : b₁ ≡ written t b
-  pub len : l₁ ≡ printed t b .len
+  pub len : l₁ ≡ filled t b .len

@@ -14,11 +14,12 @@ ghost use lib.ListN.{length, take, drop};
 ghost use Rattle.circuit.specs.Card.{number};
 ghost use Rattle.circuit.specs.Check.{checkCall};
 ghost use Rattle.sheet.specs.Open.{openCall};
+ghost use Rattle.sheet.specs.Write.{writeCall, writeBytes};
 ghost use Rattle.report.specs.Lines.{reportCall, reportBytes};
 ghost use Rattle.filter.specs.Calls.{handCall, sweepCall, chainCall, passCall, runCall};
 ghost use Rattle.output.specs.Program.{programText};
 ghost use Rattle.loungeegret.specs.Words.{stateWords, loaded, storedIn};
-ghost use Rattle.loungeegret.specs.Results.{wordsAfter, OpenResult, CallResult, RunResult, CheckResult, ReportResult, PrintResult};
+ghost use Rattle.loungeegret.specs.Results.{wordsAfter, OpenResult, CallResult, RunResult, CheckResult, FillResult, PrintResult};
 
 // Where the words stand that follow the rows of the table, and how many words a state has.
 const N: usize = 64;
@@ -209,7 +210,7 @@ pub extern "C" fn loungeegret_check_list(state: &[u64], list: &[u8], yes: &mut u
 // Writes the station lines to the start of the buffer, and through `length` how many bytes they are.
 #[no_mangle]
 pub extern "C" fn loungeegret_report(state: &[u64], buf: &mut [u8], length: &mut usize) -> u32
-    ensures { λ r. ⌜ ReportResult (reportCall (loaded (now (state .entry))) (now (buf .entry))) (reportBytes (loaded (now (state .entry))) (now (buf .entry))) (now (state .entry)) (now (buf .entry)) (now (buf .exit)) (now (length .entry)) (now (length .exit)) r ⌝ }
+    ensures { λ r. ⌜ FillResult (reportCall (loaded (now (state .entry))) (now (buf .entry))) (reportBytes (loaded (now (state .entry))) (now (buf .entry))) (now (state .entry)) (now (buf .entry)) (now (buf .exit)) (now (length .entry)) (now (length .exit)) r ⌝ }
 {
     if state.len() < STATE_WORDS {
         return NO_STATE;
@@ -217,6 +218,20 @@ pub extern "C" fn loungeegret_report(state: &[u64], buf: &mut [u8], length: &mut
     let reported = report::report(load(state), buf);
     *length = reported.len;
     let answer = reported.answer;
+    answer.number()
+}
+
+// Writes the sheet of what is left to the start of the buffer, and through `length` how many bytes it is.
+#[no_mangle]
+pub extern "C" fn loungeegret_write(state: &[u64], buf: &mut [u8], length: &mut usize) -> u32
+    ensures { λ r. ⌜ FillResult (writeCall (loaded (now (state .entry))) (now (buf .entry))) (writeBytes (loaded (now (state .entry))) (now (buf .entry))) (now (state .entry)) (now (buf .entry)) (now (buf .exit)) (now (length .entry)) (now (length .exit)) r ⌝ }
+{
+    if state.len() < STATE_WORDS {
+        return NO_STATE;
+    }
+    let written = sheet::write(load(state), buf);
+    *length = written.len;
+    let answer = written.answer;
     answer.number()
 }
 

@@ -1,23 +1,19 @@
--- The texts as the writers put them together, and the two ways out of a print. Assumes nothing.
-use mathlib.Core.Path.{_≡_, sym, ap, _∙_, subst}
+-- The texts as the writers put them together. Assumes nothing.
+use mathlib.Core.Path.{_≡_, sym, ap, _∙_}
 use mathlib.Core.Logic.{⊎-elim}
 use mathlib.Core.Bool.{true, false}
 use mathlib.Core.List.{List, _++_, append-assoc}
-use Prim.Native.Nat.{ℕ, _≤_, _<_, zero-le}
+use Prim.Native.Nat.{ℕ, _≤_, zero-le}
 use native.Mathlib.Omega.{arith}
-use lib.ListN.{length}
 use lib.Count.{ones}
 use borrow.Author.Tests.{eq-eqb, ne-eqb}
 use Rattle.bitset.proofs.BoolLaws.{cases, cond-true, cond-false, cond-elim}
 use Rattle.bitset.specs.Sets.{sum}
 use Rattle.bitset.specs.Upto.{row}
 use Rattle.writer.specs.Text.{ascii, decimal}
-use Rattle.writer.specs.Lent.{written}
-use Rattle.writer.specs.inner.Writer.{Wrote}
-use Rattle.writer.proofs.LentLaws.{is-short, has-room, written-short, written-room}
 use Rattle.circuit.specs.declared.state.Work.{Work}
 use Rattle.circuit.specs.declared.card.Answer.the-variants.{Taken}
-use Rattle.circuit.specs.Card.{number, card, word}
+use Rattle.circuit.specs.Card.{number, word}
 use Rattle.circuit.specs.State.{isNone, rowsOf, Good}
 use Rattle.circuit.proofs.CardLaws.{number-one}
 use Rattle.circuit.proofs.StateLaws.{legs-ones}
@@ -29,31 +25,8 @@ use Rattle.filter.specs.declared.cycle.Ran.{Ran}
 use Rattle.filter.specs.Calls.{runCall}
 use Rattle.filter.proofs.CallLaws.{runCall-leads}
 use Rattle.report.specs.Lines.{linesFrom, text}
-use Rattle.output.specs.declared.Printed.{Printed}
-use Rattle.output.specs.Program.{openedLine, ranLine, stationLines, takenText, refusedLine, openedText, printed}
-use Rattle.output.specs.inner.Prints.{Prints, shown}
-
--- ---- a text into a lent buffer
-
--- the same text, put together in another way
-pub prints-as : {t u d e : List ℕ} {r : Printed} → t ≡ u → Prints t d e r → Prints u d e r
-prints-as {t} {u} {d} {e} {r} q h = subst (λ (x : List ℕ). Prints x d e r) q h
-
-module _ (text d : List ℕ) where
-  pub no-room : length d < length text → Prints text d d (record { answer = card 10; len = 0 })
-  unfolding printed
-  no-room l = record { result = sym (cond-true _ _ (is-short text d l)); bytes = sym (written-short text d l) }
-
-  pub taken : (e : List ℕ) (r : ℕ) → length text ≤ length d → Wrote text d e r → Prints text d e (record { answer = card 0; len = r })
-  unfolding printed
-  taken e r l h = record { result = rw (has-room text d l, h .count); bytes = h .bytes ∙ sym (written-room text d l) }
-
-  -- where there is room, a print is a writer
-  pub prints-wrote : (e : List ℕ) (r : Printed) → length text ≤ length d → r ≡ printed text d → e ≡ written text d → Wrote text d e (r .len)
-  unfolding printed
-  prints-wrote e r l p q = record { count = ap (λ (x : Printed). x .len) p ∙ rw (has-room text d l); bytes = q ∙ written-room text d l }
-
--- ---- the text
+use Rattle.output.specs.Program.{openedLine, ranLine, stationLines, takenText, refusedLine, openedText}
+use Rattle.output.specs.inner.Prints.{shown}
 
 regroup : (x a b c : List ℕ) → x ++ (a ++ b ++ c) ≡ x ++ a ++ b ++ c
 regroup x a b c = simp append-assoc

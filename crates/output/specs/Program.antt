@@ -1,16 +1,13 @@
--- What the program prints for a sheet, and the lent buffer that it is written to.
+-- What the program prints for a sheet.
 use mathlib.Core.Bool.{cond}
 use mathlib.Core.List.{List, [], _++_}
 use Prim.Native.Nat.{ℕ}
 use lib.Dec.{eqb}
-use lib.ListN.{length}
 use Rattle.writer.specs.Text.{ascii, decimal}
-use Rattle.writer.specs.Lent.{short}
 use Rattle.circuit.specs.declared.state.Work.{Work}
 use Rattle.sheet.specs.declared.Opened.{Opened}
 use Rattle.filter.specs.declared.cycle.Ran.{Ran}
-use Rattle.output.specs.declared.Printed.{Printed}
-use Rattle.circuit.specs.Card.{number, card, word}
+use Rattle.circuit.specs.Card.{number, word}
 use Rattle.circuit.specs.Legs.{legs}
 use Rattle.circuit.specs.State.{isNone, rowsOf}
 use Rattle.sheet.specs.Open.{openCall}
@@ -46,9 +43,3 @@ openedText o =
 -- what the program prints for the bytes of a sheet, opened with limit 64
 unfoldable pub programText : List ℕ → List ℕ
 programText s = openedText (openCall s 64)
-
--- what the call hands back for a text and a lent buffer
-unfoldable pub printed : List ℕ → List ℕ → Printed
-printed text buffer =
-    cond (short text buffer) (record { answer = card 10; len = 0 })
-    (record { answer = card 0; len = length text })

@@ -1,6 +1,7 @@
 // The program's text: the bytes of a sheet in, the bytes that are printed out.
 use circuit::Answer;
 use circuit::End;
+use circuit::Filled;
 use circuit::Work;
 use filter::Ran;
 use report::lines_len;
@@ -17,9 +18,10 @@ ghost use Rattle.writer.specs.Lent.{written};
 ghost use Rattle.writer.specs.inner.Writer.{Wrote};
 ghost use Rattle.circuit.specs.Card.{word};
 ghost use Rattle.circuit.specs.State.{Good};
+ghost use Rattle.circuit.specs.Fill.{filled};
+ghost use Rattle.circuit.specs.inner.Fills.{Fills};
 ghost use Rattle.report.specs.Lines.{linesFrom};
-ghost use Rattle.output.specs.Program.{openedLine, ranLine, takenText, refusedLine, programText, printed};
-ghost use Rattle.output.specs.inner.Prints.{Prints};
+ghost use Rattle.output.specs.Program.{openedLine, ranLine, takenText, refusedLine, programText};
 ghost use Rattle.output.specs.inner.Prints.{shown as Prints·shown};
 
 // What the program opens with and runs with.
@@ -29,12 +31,6 @@ const BUDGET: u32 = 300000;
 
 // Room for the lines before the station lines.
 const HEAD: usize = 128;
-
-// What the call hands back: the length of the text.
-pub struct Printed {
-    pub answer: Answer,
-    pub len: usize,
-}
 
 // Two words, each with a number after it.
 fn put_fields(buf: &mut [u8], first: &[u8], x: u64, second: &[u8], y: u64) -> usize
@@ -109,26 +105,26 @@ fn shown(work: Work) -> usize
 }
 
 // The head, and the lines of n stations after it. A refusal changes no byte, so the length is known first.
-fn print_lines(head: &[u8], n: usize, rows: [u64; 64], buf: &mut [u8]) -> Printed
+fn print_lines(head: &[u8], n: usize, rows: [u64; 64], buf: &mut [u8]) -> Filled
     requires { ⌜ (n ≤ 64) × (length (now head) ≤ 128) ⌝ }
-    ensures { λ r. ⌜ Prints (now (head .entry) ++ linesFrom n 0 rows) (now (buf .entry)) (now (buf .exit)) r ⌝ }
+    ensures { λ r. ⌜ Fills (now (head .entry) ++ linesFrom n 0 rows) (now (buf .entry)) (now (buf .exit)) r ⌝ }
 {
     if buf.len() < head.len() + lines_len(n, rows) {
-        return Printed {
+        return Filled {
             answer: Answer::NoRoom,
             len: 0,
         };
     }
     let at = put_text(buf, head);
     let len = at + put_lines(&mut buf[at..], n, rows);
-    Printed {
+    Filled {
         answer: Answer::Taken,
         len,
     }
 }
 
-fn print_refused(number: u32, at: usize, buf: &mut [u8]) -> Printed
-    ensures { λ r. ⌜ Prints (refusedLine number at) (now (buf .entry)) (now (buf .exit)) r ⌝ }
+fn print_refused(number: u32, at: usize, buf: &mut [u8]) -> Filled
+    ensures { λ r. ⌜ Fills (refusedLine number at) (now (buf .entry)) (now (buf .exit)) r ⌝ }
 {
     let mut head = [0u8; HEAD];
     let len = put_refused(&mut head, number, at);
@@ -136,9 +132,9 @@ fn print_refused(number: u32, at: usize, buf: &mut [u8]) -> Printed
     print_lines(&head[..len], 0, rows, buf)
 }
 
-fn print_taken(work: Work, buf: &mut [u8]) -> Printed
+fn print_taken(work: Work, buf: &mut [u8]) -> Filled
     requires { ⌜ Good work ⌝ }
-    ensures { λ r. ⌜ Prints (takenText work) (now (buf .entry)) (now (buf .exit)) r ⌝ }
+    ensures { λ r. ⌜ Fills (takenText work) (now (buf .entry)) (now (buf .exit)) r ⌝ }
 {
     let ran = filter::run(work, BUDGET);
     let mut head = [0u8; HEAD];
@@ -150,8 +146,8 @@ fn print_taken(work: Work, buf: &mut [u8]) -> Printed
 }
 
 // What the program prints for the sheet, from the start of the buffer.
-pub fn print(sheet: &[u8], buf: &mut [u8]) -> Printed
-    ensures { λ r. ⌜ (r ≡ printed (programText (now (sheet .entry))) (now (buf .entry))) × (now (buf .exit) ≡ written (programText (now (sheet .entry))) (now (buf .entry))) ⌝ }
+pub fn print(sheet: &[u8], buf: &mut [u8]) -> Filled
+    ensures { λ r. ⌜ (r ≡ filled (programText (now (sheet .entry))) (now (buf .entry))) × (now (buf .exit) ≡ written (programText (now (sheet .entry))) (now (buf .entry))) ⌝ }
 {
     let opened = sheet::open(sheet, LIMIT);
     let answer = opened.answer;

@@ -1,32 +1,40 @@
--- The bytes of records: how many there are before a place, and that each is a byte. Assumes nothing.
-use mathlib.Core.Path.{_≡_}
+-- The bytes of records: that they stand before the rest, how many there are, and that each is a byte. Assumes nothing.
+use mathlib.Core.Path.{_≡_, refl, ap, _∙_}
 use mathlib.Core.Bool.{Bool}
-use mathlib.Core.List.{List, [], _∷_}
+use mathlib.Core.List.{List, [], _∷_, _++_}
 use mathlib.Core.Option.{Option, none, some}
-use Prim.Native.Nat.{ℕ, zero, suc, _+_, _/_, _≤_, _<_}
+use Prim.Native.Nat.{ℕ, zero, suc, _+_, _/_, _%_, _≤_, _<_}
 use native.Mathlib.Omega.{arith}
-use lib.ListN.{length}
+use lib.ListN.{length, length-append}
 use Rattle.bitset.proofs.SetLaws.{digit-lt}
 use Rattle.sheet.specs.Layout.{Entry, bytes, present, setBytes, fixedBytes, mapOf, entryBytes, entriesBytes, Bytes, FixedFits, EntryFits}
 use Rattle.bitset.specs.Upto.{Each}
-use Rattle.sheet.proofs.ReadLaws.{length-bytes}
+
+-- ---- the bytes of a record, and after them the rest
+
+bytes-rest : (k v : ℕ) (s rest : List ℕ) → bytes k v (s ++ rest) ≡ bytes k v s ++ rest
+unfolding bytes
+bytes-rest zero v s rest = refl
+bytes-rest (suc k) v s rest = ap (λ (l : List ℕ). v % 256 ∷ l) (bytes-rest k (v / 256) s rest)
+
+set-rest : (o : Option ℕ) (s rest : List ℕ) → setBytes o (s ++ rest) ≡ setBytes o s ++ rest
+set-rest none s rest = refl
+set-rest (some v) s rest = bytes-rest 8 v s rest
+
+fixed-rest : (o : Option ℕ) (rest : List ℕ) → fixedBytes o rest ≡ fixedBytes o [] ++ rest
+fixed-rest none rest = refl
+fixed-rest (some v) rest = refl
+
+pub entry-rest : (e : Entry) (rest : List ℕ) → entryBytes e rest ≡ entryBytes e [] ++ rest
+unfolding entryBytes
+entry-rest e rest =
+    let f = fixedBytes (e .fixed) [] in
+    rw (fixed-rest (e .fixed) rest, set-rest (e .prev) f rest, set-rest (e .next) (setBytes (e .prev) f) rest)
 
 -- ---- how many
 
-set-size : (o : Option ℕ) (r : List ℕ) → length (setBytes o r) ≡ length (setBytes o []) + length r
-set-size none r = omega arith
-set-size (some v) r = omega (arith, length-bytes 8 v r, length-bytes 8 v [])
-
-fixed-size : (o : Option ℕ) (r : List ℕ) → length (fixedBytes o r) ≡ length (fixedBytes o []) + length r
-fixed-size none r = omega arith
-fixed-size (some v) r = omega arith
-
 pub entry-size : (e : Entry) (r : List ℕ) → length (entryBytes e r) ≡ length (entryBytes e []) + length r
-unfolding entryBytes
-entry-size e r =
-    let f = fixedBytes (e .fixed) r in
-    let g = fixedBytes (e .fixed) [] in
-    omega (arith, set-size (e .next) (setBytes (e .prev) f), set-size (e .prev) f, fixed-size (e .fixed) r, set-size (e .next) (setBytes (e .prev) g), set-size (e .prev) g)
+entry-size e r = ap length (entry-rest e r) ∙ length-append (entryBytes e []) r
 
 pub entries-size : (es : List Entry) (r : List ℕ) → length (entriesBytes es r) ≡ length (entriesBytes es []) + length r
 unfolding entriesBytes

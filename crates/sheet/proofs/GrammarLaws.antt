@@ -4,15 +4,17 @@ use mathlib.Core.Bool.{Bool, true, false, not, cond, _&&_}
 use mathlib.Core.List.{List, [], _∷_}
 use Prim.Native.Nat.{ℕ, _+_, _-_, _≤_, _<_, zero-le}
 use native.Mathlib.Omega.{arith}
-use lib.ListN.{length}
+use lib.ListN.{length, length-replicate}
 use borrow.Author.Tests.{eq-eqb}
 use Rattle.bitset.specs.Sets.{has, outside}
-use Rattle.bitset.proofs.BoolLaws.{not-both}
+use Rattle.bitset.proofs.BoolLaws.{not-both, cond-elim}
 use Rattle.bitset.proofs.HasLaws.{has-above}
 use Rattle.circuit.specs.Card.{number, card}
-use Rattle.circuit.specs.State.{Good}
+use Rattle.circuit.specs.State.{rowsOf, Good}
 use Rattle.bitset.proofs.OutsideLaws.{inside, not-outside}
+use Rattle.circuit.proofs.LegsLaws.{length-tableOf}
 use Rattle.circuit.proofs.StateLaws.{stray-tableOf}
+use Rattle.sheet.specs.declared.Opened.{Opened}
 use Rattle.sheet.specs.Layout.{Entry, Page, entriesBytes, bytesOf, Bytes, EntryFits, WellFormed, allows, fixes, entryAt, given}
 use Rattle.bitset.specs.Upto.{Each}
 use Rattle.sheet.specs.Open.{Got, got, fault, readPage, refused, openedPage, opened, openCall, TakenSheet}
@@ -65,6 +67,17 @@ opened-good s limit e =
       limit-most = t .limit-most;
       place = zero-le;
     })
+
+read-long : (len limit : ℕ) (g : Got Page) → length (rowsOf (opened len limit g .work)) ≡ 64
+unfolding opened
+read-long len limit (fault c s) = length-replicate {A = ℕ} 64 0
+read-long len limit (got p s) = length-tableOf (p .stations) (given p)
+
+-- An opening hands back a table of 64 words, taken or refused.
+pub opened-long : (s : List ℕ) (limit : ℕ) → length (rowsOf (openCall s limit .work)) ≡ 64
+unfolding openCall
+opened-long s limit =
+    cond-elim (λ (o : Opened). length (rowsOf (o .work)) ≡ 64) (outside 1 64 limit) (refused (card 6) 0) (opened (length s) limit (readPage s)) (λ _. length-replicate {A = ℕ} 64 0) (λ _. read-long (length s) limit (readPage s))
 
 -- A map byte with one of bits 3 to 7 set, met after well-formed records, is refused with 3 at that byte, whatever follows it.
 pub unknown-bit-refused : (n : ℕ) (es : List Entry) (m : ℕ) (rest : List ℕ) (limit : ℕ)

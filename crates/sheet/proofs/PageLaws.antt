@@ -17,10 +17,10 @@ use Rattle.bitset.proofs.OnesLaws.{size-same, size-some, size-rest}
 use Rattle.bitset.proofs.UptoLaws.{length-upto, getD-upto, each-upto}
 use Rattle.circuit.specs.Legs.{leg, tableOf, without}
 use Rattle.circuit.specs.State.{stray}
+use Rattle.circuit.proofs.LegsLaws.{tableOf-ext}
 use Rattle.circuit.proofs.StateLaws.{stray-row, stray-self, without-none}
 use Rattle.sheet.specs.Layout.{Entry, free, EntryFits, WellFormed, allows, fixes, entryAt, given}
 use Rattle.sheet.specs.Write.{entryOf, pageOf}
-use Rattle.sheet.proofs.TableLaws.{tableOf-ext}
 
 -- ---- the record of a station of n whose legs are w
 
@@ -69,8 +69,19 @@ module _ (n w : ℕ) where
       (λ q. eq-eqb (suc only) (suc j) (ap suc (size-same n w only j (omega arith) (it .0) lj (it .1) q))))
       (and-true (has w j))
 
--- ---- the page of a table of n stations without stray legs
+-- ---- the page of a table
 
+module _ (n : ℕ) (t : List ℕ) where
+  pub entries-length : length (pageOf n t .entries) ≡ n
+  unfolding pageOf
+  entries-length = length-upto n _
+
+  -- the record of station i
+  pub entry-at : (i : ℕ) → i < n → entryAt (pageOf n t) i ≡ entryOf n (row t i)
+  unfolding pageOf entryAt
+  entry-at i l = getD-upto n (λ i. entryOf n (row t i)) free i l
+
+-- of n stations, without stray legs
 module _ (n : ℕ) (t : List ℕ) (most : n ≤ 64) (clean : stray n t ≡ false) where
   pub page-well : 2 ≤ n → WellFormed (pageOf n t)
   unfolding pageOf
@@ -78,20 +89,15 @@ module _ (n : ℕ) (t : List ℕ) (most : n ≤ 64) (clean : stray n t ≡ false
       record {
         two = two;
         most = most;
-        count = length-upto n (λ i. entryOf n (row t i));
+        count = entries-length n t;
         fits = each-upto (EntryFits n) n (λ i. entryOf n (row t i)) (λ i l. entry-fits n (row t i) (stray-row n t most clean i l));
       }
-
-  -- the record of station i
-  entry-at : (i : ℕ) → i < n → entryAt (pageOf n t) i ≡ entryOf n (row t i)
-  unfolding pageOf entryAt
-  entry-at i l = getD-upto n (λ i. entryOf n (row t i)) free i l
 
   -- the page gives the legs that stand
   pub page-given : (i j : ℕ) → i < n → j < n → given (pageOf n t) i j ≡ leg t i j
   unfolding given leg
   page-given i j li lj =
-      rw (entry-at i li, entry-at j lj, entry-prev n (row t j))
+      rw (entry-at n t i li, entry-at n t j lj, entry-prev n (row t j))
       (⊎-elim
       (λ (e : eqb i j ≡ true). rw e (sym (ap (leg t i) (sym (eqb-true i j e)) ∙ stray-self n t most clean i li)))
       (λ (e : eqb i j ≡ false). rw (e, and-true (allows (entryOf n (row t i) .next) j)) (entry-says n (row t i) i j li lj (stray-self n t most clean i li) e))

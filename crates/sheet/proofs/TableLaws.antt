@@ -17,10 +17,10 @@ use Rattle.bitset.specs.Upto.{upto}
 use Rattle.bitset.proofs.BoolLaws.{cond-true, cond-false, taut3}
 use Rattle.bitset.proofs.QuantLaws.{below?}
 use Rattle.bitset.proofs.HasLaws.{has-and, has-not}
-use Rattle.bitset.proofs.SetLaws.{setOf-lt, has-setOf, eq-setOf, setOf-ext}
-use Rattle.bitset.proofs.UptoLaws.{getD-upto, upto-cong}
+use Rattle.bitset.proofs.SetLaws.{setOf-lt, has-setOf, eq-setOf}
+use Rattle.bitset.proofs.UptoLaws.{getD-upto}
 use Rattle.circuit.specs.Legs.{columns, leg, col, tableOf, fullTable}
-use Rattle.circuit.proofs.LegsLaws.{row-in, row-out}
+use Rattle.circuit.proofs.LegsLaws.{row-in, row-out, tableOf-ext}
 use Rattle.sheet.specs.Layout.{Entry, Page, free, allows, fixes, entryAt, given}
 use Rattle.sheet.specs.inner.Reader.{nextOf, prevOf, legal}
 
@@ -70,15 +70,6 @@ module _ (n i : ℕ) (next barred : List ℕ) (le : n ≤ 64) (h : i < 64) where
       let none : bitAnd 0 allowed ≡ 0 = omega (arith, and-le-l 0 allowed) in
       ap (λ (w : ℕ). bitAnd w allowed) (row-out n (λ i j. not (eqb i j)) i g) ∙ none ∙ sym (cond-false (setOf n (legal next barred i)) 0 (le-ltb i n g)))
       (below? i n)
-
--- a table by its legs between stations below n
-pub tableOf-ext : (n : ℕ) (p q : ℕ → ℕ → Bool) → ((i j : ℕ) → i < n → j < n → p i j ≡ q i j) → tableOf n p ≡ tableOf n q
-unfolding tableOf
-tableOf-ext n p q f =
-    upto-cong 64 (λ i. cond (ltb i n) (setOf n (p i)) 0) (λ i. cond (ltb i n) (setOf n (q i)) 0) (λ i _.
-    ⊎-elim (λ (l : i < n). ap (λ (w : ℕ). cond (ltb i n) w 0) (setOf-ext n (p i) (q i) (λ j k. f i j l k)))
-    (λ (g : n ≤ i). cond-false (setOf n (p i)) 0 (le-ltb i n g) ∙ sym (cond-false (setOf n (q i)) 0 (le-ltb i n g)))
-    (below? i n))
 
 -- ---- the words of a page
 

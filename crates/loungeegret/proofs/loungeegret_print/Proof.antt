@@ -1,8 +1,8 @@
 -- `loungeegret::loungeegret_print` meets its contract.
 use borrow.Author.Needs.{needs}
 use mathlib.Core.Path.{ap, _∙_}
+use Rattle.circuit.specs.declared.filled.Filled.{Filled}
 use Rattle.circuit.specs.Card.{number}
-use Rattle.output.specs.declared.Printed.{Printed}
 use Rattle.loungeegret.proofs.loungeegret_print.Statement.{statement}
 use Rattle.loungeegret.proofs.loungeegret_print.Tie as tie
 
@@ -19,9 +19,9 @@ returns : tie.Need-returns
 returns c =
     let q = c .before .before .before in
     record {
-      number = c .number .ensures ∙ ap (λ (p : Printed). number (p .answer)) (q .print .ensures .0);
+      number = c .number .ensures ∙ ap (λ (p : Filled). number (p .answer)) (q .print .ensures .0);
       bytes = q .print .ensures .1;
-      len = ap (λ (p : Printed). p .len) (q .print .ensures .0);
+      len = ap (λ (p : Filled). p .len) (q .print .ensures .0);
     }
 
 pub loungeegret-print-spec : {M : Type 1} → statement M

@@ -5,9 +5,10 @@ use mathlib.Core.List.{List}
 use Prim.Native.Nat.{ℕ}
 use Rattle.circuit.specs.Card.{number}
 use Rattle.circuit.specs.State.{Good}
+use Rattle.circuit.proofs.FillLaws.{fills-as}
 use Rattle.sheet.specs.declared.Opened.{Opened}
 use Rattle.output.specs.Program.{takenText, refusedLine, openedText, programText}
-use Rattle.output.proofs.PrintLaws.{prints-as, opened-taken, opened-refused, taken-good}
+use Rattle.output.proofs.PrintLaws.{opened-taken, opened-refused, taken-good}
 use Rattle.output.proofs.print.Statement.{statement}
 use Rattle.output.proofs.print.Tie as tie
 
@@ -53,7 +54,7 @@ same-length c = search needs
 returns : tie.Need-returns
 returns c =
     let at = c .before .before .before .before in
-    let p = prints-as (refused (at .before) (at .if1 .taken)) (c .before .before .print-refused .ensures) in
+    let p = fills-as (refused (at .before) (at .if1 .taken)) (c .before .before .print-refused .ensures) in
     (p .result, p .bytes)
 
 print-taken-requires : tie.Need-print-taken-requires
@@ -65,7 +66,7 @@ same-length-2 c = search needs
 returns-2 : tie.Need-returns-2
 returns-2 c =
     let at = c .before .before .before .before .before in
-    let p = prints-as (taken (at .before) (at .if1 .left)) (c .before .before .print-taken .ensures) in
+    let p = fills-as (taken (at .before) (at .if1 .left)) (c .before .before .print-taken .ensures) in
     (p .result, p .bytes)
 
 pub print-spec : {M : Type 1} → statement M

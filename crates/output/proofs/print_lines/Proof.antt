@@ -6,8 +6,8 @@ use Prim.Native.Nat.{_+_}
 use native.Mathlib.Omega.{arith}
 use lib.ListN.{length, length-append}
 use Rattle.writer.proofs.WriterLaws.{wrote-then}
+use Rattle.circuit.proofs.FillLaws.{no-room, taken}
 use Rattle.report.specs.Lines.{linesFrom}
-use Rattle.output.proofs.PrintLaws.{no-room, taken}
 use Rattle.output.proofs.print_lines.Statement.{statement}
 use Rattle.output.proofs.print_lines.Tie as tie
 

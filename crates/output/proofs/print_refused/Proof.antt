@@ -4,8 +4,8 @@ use mathlib.Core.Path.{_∙_}
 use mathlib.Core.List.{append-nil}
 use native.Mathlib.Omega.{arith}
 use Rattle.writer.proofs.WriterLaws.{wrote-front, wrote-part}
+use Rattle.circuit.proofs.FillLaws.{fills-as}
 use Rattle.report.specs.Lines.{linesFrom}
-use Rattle.output.proofs.PrintLaws.{prints-as}
 use Rattle.output.proofs.print_refused.Statement.{statement}
 use Rattle.output.proofs.print_refused.Tie as tie
 
@@ -31,7 +31,7 @@ returns : tie.Need-returns
 unfolding linesFrom
 returns c =
     let line = wrote-front (c .before .before .before .before .before .before .put-refused .ensures .0) in
-    prints-as (append-nil _ ∙ line) (c .before .before .print-lines .ensures)
+    fills-as (append-nil _ ∙ line) (c .before .before .print-lines .ensures)
 
 pub print-refused-spec : {M : Type 1} → statement M
 print-refused-spec =

@@ -6,10 +6,11 @@ use Prim.Native.Nat.{ℕ}
 use native.Mathlib.Omega.{arith}
 use Rattle.writer.proofs.WriterLaws.{wrote-front, wrote-part}
 use Rattle.circuit.specs.State.{rowsOf}
+use Rattle.circuit.proofs.FillLaws.{fills-as}
 use Rattle.filter.specs.declared.cycle.Ran.{Ran}
 use Rattle.report.specs.Lines.{linesFrom}
 use Rattle.output.specs.inner.Prints.{shown}
-use Rattle.output.proofs.PrintLaws.{prints-as, shown-most, taken-text}
+use Rattle.output.proofs.PrintLaws.{shown-most, taken-text}
 use Rattle.output.proofs.print_taken.Statement.{statement}
 use Rattle.output.proofs.print_taken.Tie as tie
 
@@ -49,7 +50,7 @@ returns c =
     let r : Ran = ran .run .result in
     let two = c .before .before .before .before .before .before .before .before .before .before .put-two-lines .ensures .0 in
     let lines = ap (λ (n : ℕ). linesFrom n 0 (rowsOf (r .work))) (c .before .before .before .before .shown .ensures) in
-    prints-as (ap₂ _++_ (wrote-front two) lines ∙ taken-text (ran .before .before .args .work) r (ran .run .ensures)) (c .before .before .print-lines .ensures)
+    fills-as (ap₂ _++_ (wrote-front two) lines ∙ taken-text (ran .before .before .args .work) r (ran .run .ensures)) (c .before .before .print-lines .ensures)
 
 pub print-taken-spec : {M : Type 1} → statement M
 print-taken-spec =

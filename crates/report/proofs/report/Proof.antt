@@ -7,8 +7,8 @@ use native.Mathlib.Omega.{arith}
 use lib.ListN.{length}
 use Rattle.circuit.specs.State.{bad}
 use Rattle.circuit.proofs.StateLaws.{good}
-use Rattle.report.specs.Lines.{text}
-use Rattle.report.proofs.ReportLaws.{bad-work, no-room, taken}
+use Rattle.circuit.proofs.FillLaws.{no-room, taken, bad-work, good-work}
+use Rattle.report.specs.Lines.{text, reportCall, reportBytes}
 use Rattle.report.proofs.report.Statement.{statement}
 use Rattle.report.proofs.report.Tie as tie
 
@@ -27,14 +27,15 @@ is-bad-requires : tie.Need-is-bad-requires
 is-bad-requires c κs = search needs
 
 returns : tie.Need-returns
-returns c = bad-work _ _ (sym (c .before .is-bad .ensures) ∙ c .if1 .taken)
+unfolding reportCall reportBytes
+returns c = bad-work _ _ _ (sym (c .before .is-bad .ensures) ∙ c .if1 .taken)
 
 lines-len-requires : tie.Need-lines-len-requires
 lines-len-requires c κs = good _ (state-good (c .before .before)) .most
 
 returns-2 : tie.Need-returns-2
-unfolding text
-returns-2 c = no-room _ _ (state-good (c .before .before .before .before)) (omega (arith, c .before .lines-len .ensures))
+unfolding text reportCall reportBytes
+returns-2 c = good-work _ _ _ (state-good (c .before .before .before .before)) (no-room _ _ (omega (arith, c .before .lines-len .ensures)))
 
 put-lines-requires : tie.Need-put-lines-requires
 unfolding text
@@ -44,9 +45,10 @@ same-length : tie.Need-same-length
 same-length c = search needs
 
 returns-3 : tie.Need-returns-3
-unfolding text
+unfolding text reportCall reportBytes
 returns-3 c =
-    taken _ _ _ _ (state-good (c .before .before .before .before .before .before .before .before)) (room (c .before .before .before .before)) (c .before .before .put-lines .ensures)
+    let at = c .before .before .before .before in
+    good-work _ _ _ (state-good (at .before .before .before .before)) (taken _ _ _ _ (room at) (c .before .before .put-lines .ensures))
 
 pub report-spec : {M : Type 1} → statement M
 report-spec =

@@ -1,9 +1,8 @@
 -- `sheet::writing::fields_of` meets its contract. Assumes nothing.
 use borrow.Author.Needs.{needs}
-use Prim.Native.Nat.{ℕ}
 use native.Mathlib.Omega.{arith}
 use lib.Count.{ones-le, trailing-le}
-use Rattle.sheet.proofs.WriteLaws.{only-leg, entry-free, entry-fixed, entry-next}
+use Rattle.sheet.proofs.WriteLaws.{entry-free, entry-fixed, entry-next}
 use Rattle.sheet.proofs.writing.fields_of.Statement.{statement}
 use Rattle.sheet.proofs.writing.fields_of.Tie as tie
 
@@ -25,8 +24,7 @@ add-t9 c = omega (arith, trailing-le 64 (c .before .before .args .legs))
 returns-2 : tie.Need-returns-2
 returns-2 c =
     let start = c .before .before in
-    let legs : ℕ = start .args .legs in
-    entry-fixed _ _ (start .pre .2) _ (c .before .if1 .left) (c .if2 .taken) (omega (arith, only-leg _ legs (start .pre .1) (start .pre .2) (c .if2 .taken)))
+    entry-fixed _ _ (start .pre .2) _ (start .pre .1) (c .before .if1 .left) (c .if2 .taken) (omega arith)
 
 returns-3 : tie.Need-returns-3
 returns-3 c = entry-next _ _ (c .before .before .pre .2) (c .before .if1 .left) (c .if2 .left)
