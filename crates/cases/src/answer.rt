@@ -6,9 +6,9 @@ use crate::line::put;
 use crate::line::put_bytes;
 use crate::line::put_field;
 use crate::line::put_rows;
-use circuit::Answer;
 use circuit::Checked;
 use circuit::End;
+use circuit::Filled;
 use circuit::Work;
 use filter::Called;
 use filter::Ran;
@@ -104,23 +104,20 @@ pub fn print_checked(checked: Checked) {
     print_line(line, at);
 }
 
-// The number and the length of a call that fills a buffer, by its name.
-fn print_length(name: &[u8], answer: Answer, len: usize) {
-    print_pair(name, answer.number() as u64, b" length ", len as u64);
+// A call that fills a buffer, by its name.
+fn print_length(name: &[u8], filled: Filled) {
+    let answer = filled.answer;
+    print_pair(name, answer.number() as u64, b" length ", filled.len as u64);
 }
 
 fn print_report(work: Work, buf: &mut [u8]) {
-    let reported = report::report(work, buf);
-    let answer = reported.answer;
-    print_length(b"report ", answer, reported.len);
+    print_length(b"report ", report::report(work, buf));
     print(buf);
     print(b"\n");
 }
 
 fn print_written(work: Work, buf: &mut [u8]) {
-    let written = sheet::write(work, buf);
-    let answer = written.answer;
-    print_length(b"write ", answer, written.len);
+    print_length(b"write ", sheet::write(work, buf));
     let mut line = [0u8; LINE];
     let at = put_bytes(&mut line, 0, buf);
     let at = put(&mut line, at, b"\n");
