@@ -1,6 +1,7 @@
 /*
  * Prunes a sheet, the one in the file that is named or else the sheet of nine legs. Prints how the run ended and, unless that is
- * none, the station lines. The exit status is that of ./prune: 0 pruned, 1 refused, 2 something failed, 3 no round.
+ * none, the station lines; where a second file is named, the sheet of what is left goes there. The exit status is that of
+ * ./prune: 0 pruned, 1 refused, 2 something failed, 3 no round.
  */
 #include <stdio.h>
 
@@ -37,7 +38,22 @@ static size_t load(const char *name, uint8_t *bytes, size_t most)
     return length;
 }
 
-static int prune(const uint8_t *sheet, size_t sheet_length)
+/* Writes the sheet of what is left to a file. */
+static int send_back(const uint64_t *state, const char *name)
+{
+    uint8_t sheet[LOUNGEEGRET_WRITTEN_MOST] = {0};
+    size_t length = 0;
+
+    if (loungeegret_write(state, LOUNGEEGRET_STATE_WORDS, sheet, sizeof sheet, &length) != LOUNGEEGRET_TAKEN)
+        return fail("the write is refused");
+    FILE *file = fopen(name, "wb");
+    size_t stored = file ? fwrite(sheet, 1, length, file) : 0;
+    if (!file || fclose(file) || stored != length)
+        return fail("cannot write the struck sheet");
+    return 0;
+}
+
+static int prune(const uint8_t *sheet, size_t sheet_length, const char *struck)
 {
     uint64_t state[LOUNGEEGRET_STATE_WORDS] = {0};
     uint8_t text[LOUNGEEGRET_TEXT_MOST] = {0};
@@ -58,7 +74,7 @@ static int prune(const uint8_t *sheet, size_t sheet_length)
     if (loungeegret_report(state, LOUNGEEGRET_STATE_WORDS, text, sizeof text, &length) != LOUNGEEGRET_TAKEN)
         return fail("the report is refused");
     fwrite(text, 1, length, stdout);
-    return 0;
+    return struck ? send_back(state, struck) : 0;
 }
 
 int main(int argc, char **argv)
@@ -73,7 +89,7 @@ int main(int argc, char **argv)
         if (length == SIZE_MAX)
             return fail("cannot read the sheet");
     }
-    int status = prune(sheet, length);
+    int status = prune(sheet, length, argc > 2 ? argv[2] : NULL);
     if (fflush(stdout) || ferror(stdout))
         return fail("cannot write standard output");
     return status;

@@ -1,6 +1,8 @@
 //! Prunes a sheet, the one in the file that is named or else the sheet of nine legs. Prints how the run ended and, unless that is
-//! none, the station lines. The exit status is that of ./prune: 0 pruned, 1 refused, 2 something failed, 3 no round.
-use std::fs::File;
+//! none, the station lines; where a second file is named, the sheet of what is left goes there. The exit status is that of
+//! ./prune: 0 pruned, 1 refused, 2 something failed, 3 no round.
+use std::ffi::OsString;
+use std::fs::{self, File};
 use std::io::{self, Read, Write};
 use std::process::ExitCode;
 
@@ -29,6 +31,13 @@ unsafe extern "C" {
         buf_length: usize,
         length: &mut usize,
     ) -> u32;
+    fn loungeegret_write(
+        state: *const u64,
+        state_length: usize,
+        buf: *mut u8,
+        buf_length: usize,
+        length: &mut usize,
+    ) -> u32;
 }
 
 const TAKEN: u32 = 0;
@@ -36,6 +45,7 @@ const END: usize = 68;
 const STATE_WORDS: usize = 69;
 const SHEET_MOST: u64 = 1153;
 const TEXT_MOST: usize = 11776;
+const WRITTEN_MOST: usize = 577;
 const WORDS: [&str; 3] = ["open", "stable", "none"];
 
 #[rustfmt::skip]
@@ -50,7 +60,9 @@ const NINE_LEGS: [u8; 27] = [
 ];
 
 fn main() -> ExitCode {
-    match sheet().and_then(|sheet| prune(&sheet, &mut io::stdout())) {
+    let mut names = std::env::args_os().skip(1);
+    let (sheet, struck) = (load(names.next()), names.next());
+    match sheet.and_then(|sheet| prune(&sheet, &mut io::stdout(), struck)) {
         Ok(status) => ExitCode::from(status),
         Err(error) => {
             eprintln!("nine_legs: {error}");
@@ -59,8 +71,8 @@ fn main() -> ExitCode {
     }
 }
 
-fn sheet() -> io::Result<Vec<u8>> {
-    let Some(name) = std::env::args_os().nth(1) else {
+fn load(name: Option<OsString>) -> io::Result<Vec<u8>> {
+    let Some(name) = name else {
         return Ok(NINE_LEGS.to_vec());
     };
     let mut bytes = Vec::new();
@@ -71,7 +83,7 @@ fn sheet() -> io::Result<Vec<u8>> {
     Ok(bytes)
 }
 
-fn prune(sheet: &[u8], out: &mut impl Write) -> io::Result<u8> {
+fn prune(sheet: &[u8], out: &mut impl Write, struck: Option<OsString>) -> io::Result<u8> {
     let mut state = [0; STATE_WORDS];
     let mut text = [0; TEXT_MOST];
     let (mut place, mut steps, mut removed, mut length) = (0, 0, 0, 0);
@@ -107,5 +119,24 @@ fn prune(sheet: &[u8], out: &mut impl Write) -> io::Result<u8> {
     }
     out.write_all(&text[..length])?;
     out.flush()?;
+    if let Some(name) = struck {
+        fs::write(name, struck_sheet(&state)?)?;
+    }
     Ok(0)
+}
+
+/// The sheet of what is left.
+fn struck_sheet(state: &[u64]) -> io::Result<Vec<u8>> {
+    let mut sheet = vec![0; WRITTEN_MOST];
+    let mut length = 0;
+    // SAFETY: as above.
+    let number = unsafe {
+        let (words, bytes) = (state.as_ptr(), sheet.as_mut_ptr());
+        loungeegret_write(words, state.len(), bytes, sheet.len(), &mut length)
+    };
+    if number != TAKEN {
+        return Err(io::Error::other("the write is refused"));
+    }
+    sheet.truncate(length);
+    Ok(sheet)
 }

@@ -1,12 +1,12 @@
 //! The calls of one implementation, so that several can run the same script.
 
+use crate::filled::Filled;
 use crate::hand::Handled;
-use crate::lines::Reported;
 use crate::list::Checked;
 use crate::run::Ran;
 use crate::sheet::Opened;
 use crate::state::WorkState;
-use crate::{chain, fast, lines, list, pass, program, run, sheet, state, sweep};
+use crate::{chain, fast, lines, list, pass, program, run, sheet, state, sweep, written};
 
 pub trait Calls {
     fn open(&self, sheet: &[u8], limit: u64) -> Opened;
@@ -15,8 +15,9 @@ pub trait Calls {
     fn pass(&self, state: WorkState, seed: u64) -> Handled;
     fn run(&self, state: WorkState, budget: u32) -> Ran;
     fn list_check(&self, state: &WorkState, numbers: &[u8]) -> Checked;
-    fn report(&self, state: &WorkState, buffer: &mut [u8]) -> Reported;
-    fn print(&self, sheet: &[u8], buffer: &mut [u8]) -> Reported;
+    fn report(&self, state: &WorkState, buffer: &mut [u8]) -> Filled;
+    fn write(&self, state: &WorkState, buffer: &mut [u8]) -> Filled;
+    fn print(&self, sheet: &[u8], buffer: &mut [u8]) -> Filled;
     fn bad(&self, state: &WorkState) -> bool;
 }
 
@@ -51,11 +52,15 @@ impl Calls for Plain {
         list::list_check(state, numbers)
     }
 
-    fn report(&self, state: &WorkState, buffer: &mut [u8]) -> Reported {
+    fn report(&self, state: &WorkState, buffer: &mut [u8]) -> Filled {
         lines::report(state, buffer)
     }
 
-    fn print(&self, sheet: &[u8], buffer: &mut [u8]) -> Reported {
+    fn write(&self, state: &WorkState, buffer: &mut [u8]) -> Filled {
+        written::write(state, buffer)
+    }
+
+    fn print(&self, sheet: &[u8], buffer: &mut [u8]) -> Filled {
         program::print(self, sheet, buffer)
     }
 
@@ -89,11 +94,15 @@ impl Calls for Fast {
         fast::list_check(state, numbers)
     }
 
-    fn report(&self, state: &WorkState, buffer: &mut [u8]) -> Reported {
+    fn report(&self, state: &WorkState, buffer: &mut [u8]) -> Filled {
         fast::report(state, buffer)
     }
 
-    fn print(&self, sheet: &[u8], buffer: &mut [u8]) -> Reported {
+    fn write(&self, state: &WorkState, buffer: &mut [u8]) -> Filled {
+        fast::write(state, buffer)
+    }
+
+    fn print(&self, sheet: &[u8], buffer: &mut [u8]) -> Filled {
         program::print(self, sheet, buffer)
     }
 

@@ -8,6 +8,7 @@ mod islands;
 mod made;
 pub mod neighbours;
 mod watch;
+mod written;
 
 use std::fmt::Display;
 use std::panic::{catch_unwind, AssertUnwindSafe};
@@ -27,6 +28,7 @@ use crate::state::{End, WorkState};
 pub use self::difference::Difference;
 pub use self::islands::IslandCounts;
 pub use self::made::Made;
+pub use self::written::WrittenCounts;
 
 type Found<T> = Result<T, Box<Difference>>;
 
@@ -47,6 +49,7 @@ pub struct Counts {
     pub chains: ChainCounts,
     pub islands: IslandCounts,
     pub neighbours: NeighbourCounts,
+    pub written: WrittenCounts,
 }
 
 /// Chain steps by hand that were not refused, by what they did.
@@ -96,6 +99,18 @@ impl Counts {
         self.chains.add(&other.chains);
         self.islands.add(&other.islands);
         self.neighbours.add(&other.neighbours);
+        self.written.add(&other.written);
+    }
+
+    /// What is still missing of the calls that many sheets have.
+    pub fn missing(&self) -> Option<&'static str> {
+        if !self.neighbours.complete() {
+            Some("neighbours")
+        } else if !self.written.complete() {
+            Some("written sheets")
+        } else {
+            None
+        }
     }
 
     fn note(&mut self, answer: &Answer) {
@@ -111,7 +126,7 @@ impl Counts {
                 }
             }
             Answer::Checked(checked) => self.rounds_confirmed += u64::from(checked.yes),
-            Answer::Opened(_) | Answer::Reported(..) => {}
+            Answer::Opened(_) | Answer::Filled(..) => {}
         }
     }
 }
@@ -207,10 +222,12 @@ impl Session<'_> {
         Ok(())
     }
 
-    /// A chain step on the opened state, on some tables passes and runs too, then
-    /// calls in any order, the whole run, and more calls on the ended state: some of
-    /// any kind, then reports into buffers of every length that matters.
+    /// Writes and a chain step on the opened state, on some tables passes and runs
+    /// too, then calls in any order, the whole run, and more calls on the ended state:
+    /// some of any kind, then reports and writes into buffers of every length that
+    /// matters.
     fn sequence(&mut self) -> Found<()> {
+        self.writes()?;
         self.chain_and_back()?;
         if self.made.islands {
             self.islands_and_back()?;
@@ -233,7 +250,7 @@ impl Session<'_> {
         for length in draw::report_lengths(&self.state) {
             self.call(Call::Report { length })?;
         }
-        Ok(())
+        self.writes()
     }
 
     /// A chain step that the following calls don't see.
@@ -306,6 +323,7 @@ impl Session<'_> {
         self.call(Call::Open { limit: 64 })?;
         let moved = draw::moved(&mut self.rng, &self.state);
         self.put(moved);
+        self.writes()?;
         self.chain_and_back()?;
         for _ in 0..4 {
             self.any_call()?;
@@ -380,7 +398,8 @@ impl Session<'_> {
     /// Plain calls on many stations take long, so not all of them are made.
     fn plain_takes_part(&mut self, call: &Call) -> bool {
         let chance = match (call, self.state.n) {
-            (Call::Open { .. }, _) | (_, 0..=12) => 100,
+            (Call::Open { .. } | Call::OpenWritten { .. } | Call::Write { .. }, _) => 100,
+            (_, 0..=12) => 100,
             (Call::Run { .. }, 13..=24) => 50,
             (Call::Print { .. }, 13..=24) => 15,
             (Call::Print { .. }, 25..=64) => 2,

@@ -13,6 +13,7 @@ mod list;
 mod matching;
 mod sheet;
 mod sweep;
+mod written;
 
 use self::bits::{all_stations, bit};
 use self::chain::chain_rows;
@@ -27,6 +28,7 @@ pub use self::components::components;
 pub use self::lines::report;
 pub use self::list::list_check;
 pub use self::sheet::open;
+pub use self::written::write;
 
 pub fn bad(state: &WorkState) -> bool {
     if !(2..=64).contains(&state.n) || !good_limit(state.limit) || state.place > last_place(state.n)

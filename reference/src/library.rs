@@ -2,8 +2,8 @@
 
 use crate::calls::Calls;
 use crate::card::{self, Number};
+use crate::filled::Filled;
 use crate::hand::Handled;
-use crate::lines::Reported;
 use crate::list::Checked;
 use crate::run::Ran;
 use crate::sheet::Opened;
@@ -51,6 +51,13 @@ mod ffi {
             yes: *mut u8,
         ) -> u32;
         pub fn loungeegret_report(
+            state: *const u64,
+            state_len: usize,
+            buf: *mut u8,
+            buf_len: usize,
+            length: *mut usize,
+        ) -> u32;
+        pub fn loungeegret_write(
             state: *const u64,
             state_len: usize,
             buf: *mut u8,
@@ -106,6 +113,11 @@ pub mod raw {
     pub fn report(state: &[u64], buffer: &mut [u8], length: &mut usize) -> u32 {
         let (words, bytes) = (state.as_ptr(), buffer.as_mut_ptr());
         unsafe { ffi::loungeegret_report(words, state.len(), bytes, buffer.len(), length) }
+    }
+
+    pub fn write(state: &[u64], buffer: &mut [u8], length: &mut usize) -> u32 {
+        let (words, bytes) = (state.as_ptr(), buffer.as_mut_ptr());
+        unsafe { ffi::loungeegret_write(words, state.len(), bytes, buffer.len(), length) }
     }
 
     pub fn print(sheet: &[u8], buffer: &mut [u8], length: &mut usize) -> u32 {
@@ -181,22 +193,16 @@ impl Calls for Library {
         }
     }
 
-    fn report(&self, state: &WorkState, buffer: &mut [u8]) -> Reported {
-        let mut length = usize::MAX;
-        let answer = raw::report(&to_words(state), buffer, &mut length);
-        Reported {
-            number: number(answer),
-            length: length as u64,
-        }
+    fn report(&self, state: &WorkState, buffer: &mut [u8]) -> Filled {
+        filled(|length| raw::report(&to_words(state), buffer, length))
     }
 
-    fn print(&self, sheet: &[u8], buffer: &mut [u8]) -> Reported {
-        let mut length = usize::MAX;
-        let answer = raw::print(sheet, buffer, &mut length);
-        Reported {
-            number: number(answer),
-            length: length as u64,
-        }
+    fn write(&self, state: &WorkState, buffer: &mut [u8]) -> Filled {
+        filled(|length| raw::write(&to_words(state), buffer, length))
+    }
+
+    fn print(&self, sheet: &[u8], buffer: &mut [u8]) -> Filled {
+        filled(|length| raw::print(sheet, buffer, length))
     }
 
     /// The library has no call of its own for this; a sweep is refused just on
@@ -214,6 +220,15 @@ fn by_hand(state: &WorkState, call: impl FnOnce(&mut [u64], &mut u32) -> u32) ->
         number: number(answer),
         state: handed_back(&words),
         removed: u64::from(removed),
+    }
+}
+
+fn filled(call: impl FnOnce(&mut usize) -> u32) -> Filled {
+    let mut length = usize::MAX;
+    let answer = call(&mut length);
+    Filled {
+        number: number(answer),
+        length: length as u64,
     }
 }
 

@@ -3,7 +3,8 @@
 
 use crate::calls::Calls;
 use crate::card;
-use crate::lines::{station_lines, write_text, Reported};
+use crate::filled::{fill, Filled};
+use crate::lines::station_lines;
 use crate::state::End;
 
 pub const LIMIT: u64 = 64;
@@ -16,8 +17,8 @@ pub const BYTES_READ: u64 = 1_154;
 pub const PRINT_MOST: usize = 11_835;
 
 /// Writes the text to the start of the buffer, also that of a refused sheet.
-pub fn print(calls: &dyn Calls, sheet: &[u8], buffer: &mut [u8]) -> Reported {
-    write_text(&output(calls, sheet), buffer)
+pub fn print(calls: &dyn Calls, sheet: &[u8], buffer: &mut [u8]) -> Filled {
+    fill(output(calls, sheet).as_bytes(), buffer)
 }
 
 pub fn output(calls: &dyn Calls, sheet: &[u8]) -> String {

@@ -14,17 +14,20 @@
 //! | `R` run | budget u32 |
 //! | `L` list check | length u16, numbers one byte each |
 //! | `T` report | buffer length u16, at most 16,384 |
+//! | `B` write | buffer length u16, at most 640 |
 //!
-//! The calls work on one current state, at first the blank one.
+//! The calls work on one current state, at first the blank one. A report and a write
+//! are answered by their whole buffer, that of a write in hexadecimal.
 
 use std::io::{self, Write};
 
 use crate::calls::Calls;
 use crate::state::{End, WorkState};
 
-pub const LONGEST_BUFFER: u16 = 16_384;
+pub const LONGEST_REPORT: u16 = 16_384;
+pub const LONGEST_WRITE: u16 = 640;
 
-/// What a report buffer holds before the call.
+/// What a buffer holds before the call.
 pub const FILLER: u8 = b'.';
 
 /// A script under construction.
@@ -84,9 +87,17 @@ impl Script {
     }
 
     pub fn report(&mut self, length: usize) {
-        let length = u16::try_from(length).expect("a buffer of at most 16,384 bytes");
-        assert!(length <= LONGEST_BUFFER);
-        self.bytes.push(b'T');
+        self.buffered(b'T', length, LONGEST_REPORT);
+    }
+
+    pub fn write(&mut self, length: usize) {
+        self.buffered(b'B', length, LONGEST_WRITE);
+    }
+
+    fn buffered(&mut self, opcode: u8, length: usize, longest: u16) {
+        let length = u16::try_from(length).expect("at most 65,535 bytes");
+        assert!(length <= longest);
+        self.bytes.push(opcode);
         self.bytes.extend(length.to_le_bytes());
     }
 
@@ -106,6 +117,7 @@ enum Command<'a> {
     Run { budget: u32 },
     List { numbers: &'a [u8] },
     Report { length: usize },
+    Write { length: usize },
 }
 
 /// The part of a script that has not been read yet.
@@ -132,7 +144,10 @@ impl<'a> Reader<'a> {
                 numbers: self.counted()?,
             },
             b'T' => Command::Report {
-                length: self.buffer_length()?,
+                length: self.buffer_length(LONGEST_REPORT)?,
+            },
+            b'B' => Command::Write {
+                length: self.buffer_length(LONGEST_WRITE)?,
             },
             _ => return None,
         })
@@ -162,9 +177,9 @@ impl<'a> Reader<'a> {
         Some(state)
     }
 
-    fn buffer_length(&mut self) -> Option<usize> {
+    fn buffer_length(&mut self, longest: u16) -> Option<usize> {
         let length = u16::from_le_bytes(self.array()?);
-        (length <= LONGEST_BUFFER).then_some(usize::from(length))
+        (length <= longest).then_some(usize::from(length))
     }
 
     fn counted(&mut self) -> Option<&'a [u8]> {
@@ -245,7 +260,7 @@ fn answer(
             let (number, steps, removed) = (ran.number, ran.steps, ran.removed);
             writeln!(out, "run {number} steps {steps} removed {removed}")?;
         }
-        // These two leave the state as it is, so no state line follows.
+        // These leave the state as it is, so no state line follows.
         Command::List { numbers } => {
             let checked = calls.list_check(state, numbers);
             let word = if checked.yes { "yes" } else { "no" };
@@ -257,6 +272,16 @@ fn answer(
             let (number, length) = (reported.number, reported.length);
             writeln!(out, "report {number} length {length}")?;
             out.write_all(&buffer)?;
+            return writeln!(out);
+        }
+        Command::Write { length } => {
+            let mut buffer = vec![FILLER; length];
+            let written = calls.write(state, &mut buffer);
+            let (number, length) = (written.number, written.length);
+            writeln!(out, "write {number} length {length}")?;
+            for byte in buffer {
+                write!(out, "{byte:02x}")?;
+            }
             return writeln!(out);
         }
     }

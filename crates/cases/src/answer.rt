@@ -3,10 +3,12 @@ use crate::line::LINE;
 use crate::line::print;
 use crate::line::print_line;
 use crate::line::put;
+use crate::line::put_bytes;
 use crate::line::put_field;
 use crate::line::put_rows;
 use circuit::Checked;
 use circuit::End;
+use circuit::Filled;
 use circuit::Work;
 use filter::Called;
 use filter::Ran;
@@ -102,16 +104,31 @@ pub fn print_checked(checked: Checked) {
     print_line(line, at);
 }
 
-// The whole buffer is printed, so that a byte past the report that has changed is seen.
-pub fn print_report(work: Work, buf: &mut [u8]) {
-    let reported = report::report(work, buf);
-    let answer = reported.answer;
-    print_pair(
-        b"report ",
-        answer.number() as u64,
-        b" length ",
-        reported.len as u64,
-    );
+// A call that fills a buffer, by its name.
+fn print_length(name: &[u8], filled: Filled) {
+    let answer = filled.answer;
+    print_pair(name, answer.number() as u64, b" length ", filled.len as u64);
+}
+
+fn print_report(work: Work, buf: &mut [u8]) {
+    print_length(b"report ", report::report(work, buf));
     print(buf);
     print(b"\n");
+}
+
+fn print_written(work: Work, buf: &mut [u8]) {
+    print_length(b"write ", sheet::write(work, buf));
+    let mut line = [0u8; LINE];
+    let at = put_bytes(&mut line, 0, buf);
+    let at = put(&mut line, at, b"\n");
+    print_line(line, at);
+}
+
+// A report or a written sheet, by its opcode. The whole buffer is printed, so that a byte past what is filled that has changed is
+// seen.
+pub fn print_filled(opcode: u8, work: Work, buf: &mut [u8]) {
+    match opcode {
+        b'T' => print_report(work, buf),
+        _ => print_written(work, buf),
+    }
 }

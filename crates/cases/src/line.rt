@@ -42,6 +42,16 @@ pub fn put_field(line: &mut [u8; LINE], at: usize, word: &[u8], x: u64) -> usize
     put(line, at, &digits[..len])
 }
 
+// A number in hexadecimal, with zeros in front up to so many digits.
+fn put_hex(line: &mut [u8; LINE], at: usize, x: u64, width: usize) -> usize
+    requires { ⌜ at ≤ 1536 ⌝ }
+    ensures { λ r. ⌜ r ≤ 1536 ⌝ }
+{
+    let mut digits = [0u8; 16];
+    let len = io::hex(x, width, &mut digits);
+    put(line, at, &digits[..len])
+}
+
 // The row i, counted from 0, where it is not empty: its number from 1 on, and 16 digits.
 fn put_row(line: &mut [u8; LINE], at: usize, i: usize, row: u64) -> usize
     requires { ⌜ (at ≤ 1536) × (i < 64) ⌝ }
@@ -50,11 +60,9 @@ fn put_row(line: &mut [u8; LINE], at: usize, i: usize, row: u64) -> usize
     if row == 0 {
         return at;
     }
-    let mut digits = [0u8; 16];
-    let len = io::hex(row, 16, &mut digits);
     let at = put_field(line, at, b" ", i as u64 + 1);
     let at = put(line, at, b"=");
-    put(line, at, &digits[..len])
+    put_hex(line, at, row, 16)
 }
 
 pub fn put_rows(line: &mut [u8; LINE], at: usize, rows: &[u64; 64]) -> usize
@@ -65,6 +73,28 @@ pub fn put_rows(line: &mut [u8; LINE], at: usize, rows: &[u64; 64]) -> usize
     let mut i = 0usize;
     while i < 64 {
         next = put_row(line, next, i, rows[i]);
+        i += 1;
+    }
+    next
+}
+
+// A cast of an element in place would ask that it fits; of a parameter that is known.
+fn put_byte(line: &mut [u8; LINE], at: usize, x: u8) -> usize
+    requires { ⌜ at ≤ 1536 ⌝ }
+    ensures { λ r. ⌜ r ≤ 1536 ⌝ }
+{
+    put_hex(line, at, x as u64, 2)
+}
+
+// Two digits a byte.
+pub fn put_bytes(line: &mut [u8; LINE], at: usize, bytes: &[u8]) -> usize
+    requires { ⌜ at ≤ 1536 ⌝ }
+    ensures { λ r. ⌜ r ≤ 1536 ⌝ }
+{
+    let mut next = at;
+    let mut i = 0usize;
+    while i < bytes.len() {
+        next = put_byte(line, next, bytes[i]);
         i += 1;
     }
     next

@@ -8,6 +8,7 @@
 //   R  run         budget u32
 //   L  list check  length u16, numbers one byte each
 //   T  report      buffer length u16, at most 16,384
+//   B  write       buffer length u16, at most 640
 //
 // The calls work on one current state, at first the blank one. An unknown or cut command, or an argument out of its range, is
 // answered by `stop`, and ends the script.
@@ -17,9 +18,9 @@ mod read;
 
 use answer::print_called;
 use answer::print_checked;
+use answer::print_filled;
 use answer::print_opened;
 use answer::print_ran;
-use answer::print_report;
 use answer::print_work;
 use circuit::End;
 use circuit::Table;
@@ -41,6 +42,9 @@ const SCRIPT: usize = 524288;
 
 // The longest report buffer.
 const REPORT: usize = 16384;
+
+// The longest buffer of a written sheet.
+const SHEET: usize = 640;
 
 // An opcode, three words, the mark, the end and 64 rows.
 const WORK_LEN: usize = 539;
@@ -160,25 +164,28 @@ fn check_list(part: &[u8], work: Work) -> Step
     Step { taken: end, work }
 }
 
-// What a report buffer holds before the call. As a call's result the array is known by its length, and not by its elements.
+// What a buffer holds before the call. As a call's result the array is known by its length, and not by its elements.
 fn filled() -> [u8; REPORT]
     ensures { λ r. ⌜ 16384 ≡ length r ⌝ }
 {
     [b'.'; REPORT]
 }
 
-fn report(part: &[u8], work: Work) -> Step
+// A report or a written sheet, by its opcode, into a buffer of at most so many bytes.
+fn fill(part: &[u8], work: Work, most: usize) -> Step
+    requires { ⌜ most ≤ 16384 ⌝ }
     ensures { λ r. ⌜ r .taken ≤ length (now (part .entry)) ⌝ }
 {
     if part.len() < 3 {
         return stop(work);
     }
     let len = read_u16(part, 1) as usize;
-    if REPORT < len {
+    if most < len {
         return stop(work);
     }
+    let opcode = part[0];
     let mut buf = filled();
-    print_report(work, &mut buf[..len]);
+    print_filled(opcode, work, &mut buf[..len]);
     Step { taken: 3, work }
 }
 
@@ -195,7 +202,8 @@ fn command(part: &[u8], work: Work) -> Step
         b'P' => pass(part, work),
         b'R' => run(part, work),
         b'L' => check_list(part, work),
-        b'T' => report(part, work),
+        b'T' => fill(part, work, REPORT),
+        b'B' => fill(part, work, SHEET),
         _ => stop(work),
     }
 }

@@ -2,8 +2,8 @@
 //!
 //! `compare [--seed S] [--sheets COUNT]` goes through that many made-up sheets,
 //! `compare --seed S --sheet K` through a single one of them again. A difference
-//! ends it with status 1, and so does a count of neighbours that is still 0 after
-//! many sheets.
+//! ends it with status 1, and so does a count of neighbours or of written sheets that
+//! is still 0 after many sheets.
 
 use std::process::ExitCode;
 use std::str::FromStr;
@@ -40,8 +40,9 @@ fn main() -> ExitCode {
         Ok(counts) => {
             tell(options.seed, end - first, &counts);
             eprintln!("compare: {:.1} seconds", start.elapsed().as_secs_f64());
-            if end - first >= MANY_SHEETS && !counts.neighbours.complete() {
-                println!("compare: a count of neighbours is 0");
+            let many = end - first >= MANY_SHEETS;
+            if let Some(missing) = counts.missing().filter(|_| many) {
+                println!("compare: a count of {missing} is 0");
                 return ExitCode::FAILURE;
             }
             ExitCode::SUCCESS
@@ -144,6 +145,11 @@ fn tell(seed: u64, sheets: u64, counts: &Counts) {
     println!(
         "  neighbours: {} passes by hand have others at a later level, {} differ by outgoing legs alone, {} runs differ by those of the first level",
         neighbours.changed, neighbours.by_outgoing, neighbours.by_first
+    );
+    let written = &counts.written;
+    println!(
+        "  written sheets: {} round trips; records: {} without field, {} fixed, {} with a next set, {} with an empty one",
+        written.round_trips, written.no_field, written.fixed, written.next_set, written.empty_set
     );
 }
 

@@ -4,8 +4,8 @@ use std::fmt;
 
 use crate::calls::Calls;
 use crate::card::Number;
+use crate::filled::{fill, Filled};
 use crate::hand::Handled;
-use crate::lines::{write_text, Reported};
 use crate::list::Checked;
 use crate::run::Ran;
 use crate::sheet::Opened;
@@ -14,12 +14,14 @@ use crate::state::WorkState;
 #[derive(Clone, Debug)]
 pub enum Call {
     Open { limit: u64 },
+    OpenWritten { limit: u64, sheet: Vec<u8> },
     Sweep,
     Chain,
     Pass { seed: u64 },
     Run { budget: u32 },
     List { numbers: Vec<u8> },
     Report { length: usize },
+    Write { length: usize },
     Print { length: usize },
 }
 
@@ -30,44 +32,52 @@ pub enum Answer {
     Handled(Handled),
     Ran(Ran),
     Checked(Checked),
-    Reported(Reported, Vec<u8>),
+    Filled(Filled, Vec<u8>),
 }
 
 impl Call {
-    /// Makes the call on a state; an opening and a print take the sheet instead.
+    /// Makes the call on a state; an opening and a print take a sheet instead.
     pub fn make(&self, calls: &dyn Calls, sheet: &[u8], state: &WorkState) -> Answer {
         match self {
             Call::Open { limit } => Answer::Opened(calls.open(sheet, *limit)),
+            Call::OpenWritten { limit, sheet } => Answer::Opened(calls.open(sheet, *limit)),
             Call::Sweep => Answer::Handled(calls.sweep(*state)),
             Call::Chain => Answer::Handled(calls.chain(*state)),
             Call::Pass { seed } => Answer::Handled(calls.pass(*state, *seed)),
             Call::Run { budget } => Answer::Ran(calls.run(*state, *budget)),
             Call::List { numbers } => Answer::Checked(calls.list_check(state, numbers)),
             Call::Report { length } => {
-                let mut buffer = filled_buffer(*length);
-                let reported = calls.report(state, &mut buffer);
-                Answer::Reported(reported, buffer)
+                Answer::filled(*length, |buffer| calls.report(state, buffer))
             }
-            Call::Print { length } => {
-                let mut buffer = filled_buffer(*length);
-                let printed = calls.print(sheet, &mut buffer);
-                Answer::Reported(printed, buffer)
-            }
+            Call::Write { length } => Answer::filled(*length, |buffer| calls.write(state, buffer)),
+            Call::Print { length } => Answer::filled(*length, |buffer| calls.print(sheet, buffer)),
         }
     }
 }
 
 /// Bytes that differ from their neighbours and stand in no text.
-fn filled_buffer(length: usize) -> Vec<u8> {
+fn lent_buffer(length: usize) -> Vec<u8> {
     (0..length).map(|at| 128 + (at % 127) as u8).collect()
 }
 
 impl Answer {
+    fn filled(length: usize, call: impl FnOnce(&mut [u8]) -> Filled) -> Answer {
+        let mut buffer = lent_buffer(length);
+        let filled = call(&mut buffer);
+        Answer::Filled(filled, buffer)
+    }
+
     /// What a print of this text answers.
     pub fn printed(text: &str, length: usize) -> Answer {
-        let mut buffer = filled_buffer(length);
-        let printed = write_text(text, &mut buffer);
-        Answer::Reported(printed, buffer)
+        Answer::filled(length, |buffer| fill(text.as_bytes(), buffer))
+    }
+
+    /// The bytes of the buffer that are told to be filled.
+    pub fn written(&self) -> &[u8] {
+        match self {
+            Answer::Filled(filled, buffer) => &buffer[..filled.length as usize],
+            _ => &[],
+        }
     }
 
     pub fn number(&self) -> Number {
@@ -76,7 +86,7 @@ impl Answer {
             Answer::Handled(handled) => handled.number,
             Answer::Ran(ran) => ran.number,
             Answer::Checked(checked) => checked.number,
-            Answer::Reported(reported, _) => reported.number,
+            Answer::Filled(filled, _) => filled.number,
         }
     }
 
@@ -86,7 +96,7 @@ impl Answer {
             Answer::Opened(opened) => Some(&opened.state),
             Answer::Handled(handled) => Some(&handled.state),
             Answer::Ran(ran) => Some(&ran.state),
-            Answer::Checked(_) | Answer::Reported(..) => None,
+            Answer::Checked(_) | Answer::Filled(..) => None,
         }
     }
 }
@@ -95,12 +105,16 @@ impl fmt::Display for Call {
     fn fmt(&self, out: &mut fmt::Formatter) -> fmt::Result {
         match self {
             Call::Open { limit } => write!(out, "open with limit {limit}"),
+            Call::OpenWritten { limit, .. } => {
+                write!(out, "open what was written with limit {limit}")
+            }
             Call::Sweep => write!(out, "sweep"),
             Call::Chain => write!(out, "chain step"),
             Call::Pass { seed } => write!(out, "pass with seed {seed}"),
             Call::Run { budget } => write!(out, "run with budget {budget}"),
             Call::List { numbers } => write!(out, "list check of {numbers:?}"),
             Call::Report { length } => write!(out, "report into {length} bytes"),
+            Call::Write { length } => write!(out, "write into {length} bytes"),
             Call::Print { length } => write!(out, "print into {length} bytes"),
         }
     }
@@ -114,8 +128,8 @@ impl fmt::Display for Answer {
             Answer::Handled(handled) => write!(out, " removed {}", handled.removed)?,
             Answer::Ran(ran) => write!(out, " steps {} removed {}", ran.steps, ran.removed)?,
             Answer::Checked(checked) => write!(out, " yes {}", checked.yes)?,
-            Answer::Reported(reported, buffer) => {
-                let (length, bytes) = (reported.length, buffer.escape_ascii());
+            Answer::Filled(filled, buffer) => {
+                let (length, bytes) = (filled.length, buffer.escape_ascii());
                 write!(out, " length {length} buffer \"{bytes}\"")?;
             }
         }

@@ -2,9 +2,11 @@
 
 use super::call::Call;
 use crate::fast;
+use crate::filled::Filled;
 use crate::gen::{random_round, Xorshift, WIDE_NUMBERS};
 use crate::program::PRINT_MOST;
 use crate::state::{last_place, End, WorkState};
+use crate::written::WRITTEN_MOST;
 
 /// The lines of the full table of 64 stations are shorter.
 const LONGEST_TEXT: usize = 16_384;
@@ -28,18 +30,19 @@ pub fn bad_limit(rng: &mut Xorshift) -> u64 {
 /// A call on a state. The known rounds are rounds of its table or of an earlier
 /// one.
 pub fn call(rng: &mut Xorshift, state: &WorkState, rounds: &[Vec<usize>]) -> Call {
-    match rng.below(24) {
+    match rng.below(26) {
         0..=2 => Call::Sweep,
         3..=6 => Call::Chain,
         7..=13 => pass(rng, state),
         14..=17 => run(rng, state),
         18..=20 => list(rng, state, rounds),
-        _ => report(rng, state),
+        21..=23 => report(rng, state),
+        _ => write(rng, state),
     }
 }
 
 /// One call of each kind.
-pub fn each_call(rng: &mut Xorshift, state: &WorkState, rounds: &[Vec<usize>]) -> [Call; 6] {
+pub fn each_call(rng: &mut Xorshift, state: &WorkState, rounds: &[Vec<usize>]) -> [Call; 7] {
     [
         Call::Sweep,
         Call::Chain,
@@ -47,6 +50,7 @@ pub fn each_call(rng: &mut Xorshift, state: &WorkState, rounds: &[Vec<usize>]) -
         run(rng, state),
         list(rng, state, rounds),
         report(rng, state),
+        write(rng, state),
     ]
 }
 
@@ -120,19 +124,36 @@ fn standing_legs(rng: &mut Xorshift, state: &WorkState) -> Vec<u8> {
 }
 
 fn report(rng: &mut Xorshift, state: &WorkState) -> Call {
-    let length = match rng.below(6) {
-        0 => rng.below(2 * text_length(state)),
-        _ => rng.pick(&report_lengths(state)),
-    };
+    let length = any_length(rng, text_length(state), report_lengths(state));
     Call::Report { length }
 }
 
-/// Buffers of no byte and of one, of the text's length, up to two bytes shorter
-/// and longer, and with much room.
+fn write(rng: &mut Xorshift, state: &WorkState) -> Call {
+    let length = any_length(rng, sheet_length(state), write_lengths(state));
+    Call::Write { length }
+}
+
+fn any_length(rng: &mut Xorshift, filled: usize, lengths: [usize; 8]) -> usize {
+    match rng.below(6) {
+        0 => rng.below(2 * filled),
+        _ => rng.pick(&lengths),
+    }
+}
+
 pub fn report_lengths(state: &WorkState) -> [usize; 8] {
-    let text = text_length(state);
-    let room = text + LONGEST_TEXT;
-    [0, 1, text - 2, text - 1, text, text + 1, text + 2, room]
+    lengths_around(text_length(state), LONGEST_TEXT)
+}
+
+pub fn write_lengths(state: &WorkState) -> [usize; 8] {
+    lengths_around(sheet_length(state), WRITTEN_MOST)
+}
+
+/// Buffers of no byte and of one, of the length that is filled, up to two bytes
+/// shorter and longer, and with much room.
+fn lengths_around(filled: usize, room: usize) -> [usize; 8] {
+    let (shorter, longer) = (filled - 1, filled + 1);
+    let much = filled + room;
+    [0, 1, shorter - 1, shorter, filled, longer, longer + 1, much]
 }
 
 /// A buffer one byte too short for the program's text, one of its length, and the
@@ -141,9 +162,17 @@ pub fn print_lengths(text: &str) -> [usize; 3] {
     [text.len() - 1, text.len(), PRINT_MOST]
 }
 
-/// A bad state has no text, and any length will do.
 fn text_length(state: &WorkState) -> usize {
-    match fast::report(state, &mut [0; LONGEST_TEXT]).length as usize {
+    or_any(fast::report(state, &mut [0; LONGEST_TEXT]))
+}
+
+fn sheet_length(state: &WorkState) -> usize {
+    or_any(fast::write(state, &mut [0; WRITTEN_MOST]))
+}
+
+/// A bad state fills nothing, and any length will do.
+fn or_any(filled: Filled) -> usize {
+    match filled.length as usize {
         0 => 60,
         length => length,
     }
@@ -194,4 +223,23 @@ pub fn moved(rng: &mut Xorshift, state: &WorkState) -> WorkState {
         end: rng.pick(&[End::Open, End::Open, End::Stable, End::None]),
         ..*state
     }
+}
+
+/// The same table at any place, with any mark, end and limit.
+pub fn elsewhere(rng: &mut Xorshift, state: &WorkState) -> WorkState {
+    let limit = good_limit(rng);
+    WorkState {
+        limit,
+        ..moved(rng, state)
+    }
+}
+
+/// One leg more or one less.
+pub fn one_leg_off(rng: &mut Xorshift, state: &WorkState) -> WorkState {
+    let n = state.n as usize;
+    let from = rng.below(n);
+    let to = (from + rng.between(1, n - 1)) % n;
+    let mut other = *state;
+    other.rows[from] ^= 1 << to;
+    other
 }

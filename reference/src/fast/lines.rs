@@ -3,35 +3,23 @@
 use super::bad;
 use super::bits::indices;
 use crate::card;
-use crate::lines::Reported;
+use crate::filled::{fill_by, Filled};
 use crate::state::WorkState;
 
 /// Stations 1 to 9, the ones written with a single digit.
 const ONE_DIGIT: u64 = 0x1FF;
 
-pub fn report(state: &WorkState, buffer: &mut [u8]) -> Reported {
+pub fn report(state: &WorkState, buffer: &mut [u8]) -> Filled {
     if bad(state) {
-        return Reported {
-            number: card::BAD_WORK_STATE,
-            length: 0,
-        };
+        return Filled::refused(card::BAD_WORK_STATE);
     }
     let rows = &state.rows[..state.n as usize];
-    let length = text_length(rows);
-    if buffer.len() < length {
-        return Reported {
-            number: card::NO_ROOM,
-            length: 0,
-        };
-    }
-    let mut at = 0;
-    for (i, &row) in rows.iter().enumerate() {
-        at = write_line(buffer, at, i, row);
-    }
-    Reported {
-        number: card::TAKEN,
-        length: length as u64,
-    }
+    fill_by(text_length(rows), buffer, |text| {
+        let mut at = 0;
+        for (i, &row) in rows.iter().enumerate() {
+            at = write_line(text, at, i, row);
+        }
+    })
 }
 
 /// Each line has its number, a colon and a newline; each leg a space and a

@@ -7,12 +7,14 @@ use std::collections::BTreeSet;
 use super::{measured, raw, NO_STATE};
 use crate::calls::Fast;
 use crate::card;
+use crate::filled::fill;
 use crate::gen::{any_table, ring, wide_islands, Family, Sheet, Xorshift};
 use crate::paper::{NINE_LEGS, NINE_LEGS_OUTPUT};
 use crate::program::{self, PRINT_MOST};
-use crate::state::{Rows, WorkState};
+use crate::state::{End, Rows, WorkState};
 use crate::table::{stations_of, word_of, LegTable};
 use crate::words::{to_words, Words, END, MARK, STATE_WORDS};
+use crate::written::{written_sheet, WRITTEN_MOST};
 use crate::{fast, graph};
 
 /// What a call may write, filled with values that no call gives.
@@ -71,7 +73,11 @@ fn report(to: &mut Written) -> u32 {
     raw::report(&to.state, &mut to.buffer, &mut to.length)
 }
 
-const ON_A_STATE: [RawCall; 6] = [sweep, chain, pass, run, check_list, report];
+fn write(to: &mut Written) -> u32 {
+    raw::write(&to.state, &mut to.buffer, &mut to.length)
+}
+
+const ON_A_STATE: [RawCall; 7] = [sweep, chain, pass, run, check_list, report, write];
 
 fn nine_legs() -> Words {
     to_words(&crate::sheet::open(&NINE_LEGS, 64).state)
@@ -113,7 +119,7 @@ fn a_refused_opening_writes_the_blank_state() {
 }
 
 /// What each call writes when it refuses a state.
-fn refused(before: &Written) -> [Written; 6] {
+fn refused(before: &Written) -> [Written; 7] {
     let removed = 0;
     let by_hand = Written {
         removed,
@@ -127,13 +133,13 @@ fn refused(before: &Written) -> [Written; 6] {
         yes: 0,
         ..before.clone()
     };
-    let reported = Written {
+    let filled = Written {
         length: 0,
         ..before.clone()
     };
-    let steps = [(); 3].map(|_| by_hand.clone());
-    let [sweep, chain, pass] = steps;
-    [sweep, chain, pass, ran, checked, reported]
+    let [sweep, chain, pass] = [(); 3].map(|_| by_hand.clone());
+    let [reported, written] = [(); 2].map(|_| filled.clone());
+    [sweep, chain, pass, ran, checked, reported, written]
 }
 
 #[test]
@@ -157,9 +163,48 @@ fn a_mark_or_end_that_is_none_is_a_bad_state() {
 
 const HEADER: &str = include_str!("../../../include/loungeegret.h");
 
+/// Does a line of the header give this value?
+fn header_has(constant: &str, value: usize) -> bool {
+    let start = format!("LOUNGEEGRET_{constant} = {value}");
+    let mut rests = HEADER
+        .lines()
+        .filter_map(|line| line.trim().strip_prefix(&start));
+    rests.any(|rest| !rest.starts_with(|more: char| more.is_ascii_digit()))
+}
+
 #[test]
-fn the_header_tells_the_room_for_every_text() {
-    assert!(HEADER.contains(&format!("LOUNGEEGRET_PRINT_MOST = {PRINT_MOST}\n")));
+fn the_header_tells_the_room_for_every_text_and_sheet() {
+    assert!(header_has("PRINT_MOST", PRINT_MOST));
+    assert!(header_has("WRITTEN_MOST", WRITTEN_MOST));
+}
+
+/// What is written into a buffer of any length, of a state of any end.
+fn assert_writes(state: &WorkState, sheet: &[u8]) {
+    for end in [End::Open, End::Stable, End::None] {
+        let words = to_words(&WorkState { end, ..*state });
+        for room in 0..=WRITTEN_MOST + 40 {
+            let (mut buffer, mut length) = (vec![b'~'; room], usize::MAX);
+            let mut expected = buffer.clone();
+            let filled = fill(sheet, &mut expected);
+            let answer = raw::write(&words, &mut buffer, &mut length);
+            assert_eq!(
+                (answer, length as u64),
+                (filled.number.into(), filled.length)
+            );
+            assert_eq!(buffer, expected);
+        }
+    }
+}
+
+#[test]
+fn the_sheet_is_written_where_it_has_room() {
+    assert_writes(&crate::sheet::open(&NINE_LEGS, 64).state, &NINE_LEGS);
+    let mut rng = Xorshift::new(34);
+    let drawn = [2, 3, 12, 64].map(|n| any_table(&mut rng, n));
+    let borders = [2, 64].map(|n| [LegTable::full(n), LegTable::empty(n)]);
+    for table in drawn.iter().chain(borders.as_flattened()) {
+        assert_writes(&WorkState::opened(table, 64), &written_sheet(table));
+    }
 }
 
 /// Prints into so many bytes, none of which stands in a text.

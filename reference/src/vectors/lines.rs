@@ -3,7 +3,7 @@
 use super::open_table;
 use crate::gen::{random, ring, Xorshift};
 use crate::lines::station_lines;
-use crate::script::{Script, LONGEST_BUFFER};
+use crate::script::{Script, LONGEST_REPORT};
 use crate::table::LegTable;
 
 pub fn add(script: &mut Script) {
@@ -24,7 +24,7 @@ pub fn add(script: &mut Script) {
 
 fn longest_text(script: &mut Script) {
     open_table(script, 64, &LegTable::full(64));
-    script.report(usize::from(LONGEST_BUFFER));
+    script.report(usize::from(LONGEST_REPORT));
 }
 
 /// A report asks for a good state and not for an open one.

@@ -10,6 +10,7 @@ mod openings;
 mod passes;
 mod runs;
 mod sweeps;
+mod written;
 
 use crate::gen::{Sheet, WIDE_NUMBERS};
 use crate::script::Script;
@@ -29,6 +30,7 @@ pub fn script() -> Script {
     runs::add(&mut script);
     lists::add(&mut script);
     neighbours::add(&mut script);
+    written::add(&mut script);
     script
 }
 

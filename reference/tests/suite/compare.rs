@@ -3,15 +3,16 @@
 use std::collections::BTreeSet;
 
 use reference::compare::{compare_sheet, Counts};
+use reference::filled::fill;
 use reference::gen::{any_table, Sheet, Xorshift};
 use reference::graph::{inner, levels, unreached};
 use reference::hand::{self, Handled};
-use reference::lines::Reported;
 use reference::list::Checked;
 use reference::run::Ran;
 use reference::sheet::Opened;
 use reference::state::last_place;
-use reference::{card, open, program, Calls, End, Fast, WorkState};
+use reference::written::written_sheet;
+use reference::{card, open, program, Calls, End, Fast, Filled, LegTable, WorkState};
 
 #[test]
 fn fast_calls_differ_nowhere() {
@@ -32,6 +33,16 @@ fn fast_calls_differ_nowhere() {
     assert!(islands.no_level > 50 && islands.over_limit > 40 && islands.level > 20);
     let neighbours = &counts.neighbours;
     assert!(neighbours.changed > 10 && neighbours.by_outgoing > 100 && neighbours.by_first > 10);
+    let written = &counts.written;
+    assert!(written.round_trips > 1_500);
+    assert!(written.no_field > 1_000 && written.fixed > 5_000);
+    assert!(written.next_set > 10_000 && written.empty_set > 500);
+    assert_eq!(counts.missing(), None);
+}
+
+#[test]
+fn a_count_that_is_0_is_told() {
+    assert!(Counts::default().missing().is_some());
 }
 
 #[test]
@@ -76,10 +87,19 @@ enum Fault {
     IslandsStruck,
     PrintsWhatFits,
     RefusalAsAnswer,
+    TwoStationsFixed,
+    OwnBitWritten,
+    SingleLegAsSet,
+    MapBitsSwapped,
+    PreviousSetsWritten,
+    WritesBehindSheet,
+    WritesWhatFits,
+    RoomCheckedFirst,
+    NoneNotWritten,
     Panics,
 }
 
-const FAULTS: [Fault; 18] = [
+const FAULTS: [Fault; 27] = [
     Fault::PlaceOfRefusal,
     Fault::RemovalCount,
     Fault::LimitIgnored,
@@ -97,6 +117,15 @@ const FAULTS: [Fault; 18] = [
     Fault::IslandsStruck,
     Fault::PrintsWhatFits,
     Fault::RefusalAsAnswer,
+    Fault::TwoStationsFixed,
+    Fault::OwnBitWritten,
+    Fault::SingleLegAsSet,
+    Fault::MapBitsSwapped,
+    Fault::PreviousSetsWritten,
+    Fault::WritesBehindSheet,
+    Fault::WritesWhatFits,
+    Fault::RoomCheckedFirst,
+    Fault::NoneNotWritten,
     Fault::Panics,
 ];
 
@@ -180,6 +209,35 @@ fn without_missed(mut passed: Handled, missed: &Missed) -> Handled {
         *row = 0;
     }
     passed
+}
+
+/// The sheet of what is left as others would write it, by a fault in its records.
+fn sheet_by(fault: Fault, table: &LegTable) -> Option<Vec<u8>> {
+    // The short sheet fixes the full rows of two stations.
+    let mut sheet = match table.n() {
+        2 => Sheet::of(table),
+        _ => Sheet::short(table),
+    };
+    match fault {
+        Fault::TwoStationsFixed => Some(Sheet::short(table).bytes()),
+        Fault::SingleLegAsSet => Some(Sheet::of(table).bytes()),
+        Fault::PreviousSetsWritten => Some(Sheet::of_by_previous(table).bytes()),
+        Fault::OwnBitWritten => {
+            for (at, record) in sheet.records.iter_mut().enumerate() {
+                record.next = record.next.map(|set| set | 1 << at);
+            }
+            Some(sheet.bytes())
+        }
+        Fault::MapBitsSwapped => {
+            let mut bytes = sheet.bytes();
+            for at in 0..table.n() {
+                let map = &mut bytes[sheet.map_at(at)];
+                *map = [0, 4, 2, 6, 1, 5, 3, 7][usize::from(*map)];
+            }
+            Some(bytes)
+        }
+        _ => None,
+    }
 }
 
 /// The fast calls with one fault.
@@ -270,7 +328,7 @@ impl Calls for Faulty {
         checked
     }
 
-    fn report(&self, state: &WorkState, buffer: &mut [u8]) -> Reported {
+    fn report(&self, state: &WorkState, buffer: &mut [u8]) -> Filled {
         let reported = Fast.report(state, buffer);
         let end = reported.length as usize;
         if matches!(self.0, Fault::WritesBehindText) && end > 0 && end < buffer.len() {
@@ -279,7 +337,37 @@ impl Calls for Faulty {
         reported
     }
 
-    fn print(&self, sheet: &[u8], buffer: &mut [u8]) -> Reported {
+    fn write(&self, state: &WorkState, buffer: &mut [u8]) -> Filled {
+        if Fast.bad(state) {
+            let none_fits = matches!(self.0, Fault::RoomCheckedFirst) && buffer.is_empty();
+            let number = if none_fits {
+                card::NO_ROOM
+            } else {
+                card::BAD_WORK_STATE
+            };
+            return Filled::refused(number);
+        }
+        let table = state.table();
+        if let Some(sheet) = sheet_by(self.0, &table) {
+            return fill(&sheet, buffer);
+        }
+        let sheet = written_sheet(&table);
+        match self.0 {
+            Fault::WritesBehindSheet if sheet.len() < buffer.len() => {
+                buffer[sheet.len()] = 0;
+            }
+            Fault::WritesWhatFits if buffer.len() < sheet.len() => {
+                return fill(&sheet[..buffer.len()], buffer);
+            }
+            Fault::NoneNotWritten if state.end == End::None => {
+                return Filled::refused(card::BAD_WORK_STATE);
+            }
+            _ => {}
+        }
+        fill(&sheet, buffer)
+    }
+
+    fn print(&self, sheet: &[u8], buffer: &mut [u8]) -> Filled {
         let mut printed = Fast.print(sheet, buffer);
         if matches!(self.0, Fault::PrintsWhatFits) && printed.number == 10 {
             let text = program::output(&Fast, sheet);

@@ -32,6 +32,7 @@ fn call_both(rng: &mut Xorshift, state: WorkState) -> WorkState {
         _ => {
             list_both(rng, &state);
             report_both(rng, &state);
+            write_both(rng, &state);
             state
         }
     }
@@ -59,6 +60,14 @@ fn report_both(rng: &mut Xorshift, state: &WorkState) {
     let mut fast = plain.clone();
     let reported = Plain.report(state, &mut plain);
     assert_eq!(Fast.report(state, &mut fast), reported);
+    assert_eq!(plain, fast);
+}
+
+fn write_both(rng: &mut Xorshift, state: &WorkState) {
+    let mut plain = vec![b'.'; rng.below(600)];
+    let mut fast = plain.clone();
+    let written = Plain.write(state, &mut plain);
+    assert_eq!(Fast.write(state, &mut fast), written);
     assert_eq!(plain, fast);
 }
 

@@ -15,6 +15,7 @@ mod soundness;
 mod states;
 mod stored;
 mod wall;
+mod written;
 mod yard;
 
 use reference::{Calls, Fast, LegTable, Plain, WorkState};

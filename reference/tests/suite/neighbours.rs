@@ -9,13 +9,12 @@ use reference::gen::{any_table, reversed, ring_of_rungs, two_way, two_wide_level
 use reference::gen::{Family, Xorshift};
 use reference::graph::{components, inner, levels, unreached};
 use reference::hand::{self, Handled, Verdict};
-use reference::lines::Reported;
 use reference::list::Checked;
 use reference::pass::pass_table;
 use reference::run::{run_with, Ran};
 use reference::sheet::Opened;
 use reference::table::Leg;
-use reference::{Calls, Fast, LegTable, WorkState};
+use reference::{Calls, Fast, Filled, LegTable, WorkState};
 
 /// Strikes all legs inside each inner level once it has been looked at; no pass
 /// strikes more. The components of the next ones have to stay as they were. How many
@@ -215,11 +214,15 @@ impl Calls for Faulty {
         Fast.list_check(state, numbers)
     }
 
-    fn report(&self, state: &WorkState, buffer: &mut [u8]) -> Reported {
+    fn report(&self, state: &WorkState, buffer: &mut [u8]) -> Filled {
         Fast.report(state, buffer)
     }
 
-    fn print(&self, sheet: &[u8], buffer: &mut [u8]) -> Reported {
+    fn write(&self, state: &WorkState, buffer: &mut [u8]) -> Filled {
+        Fast.write(state, buffer)
+    }
+
+    fn print(&self, sheet: &[u8], buffer: &mut [u8]) -> Filled {
         Fast.print(sheet, buffer)
     }
 

@@ -25,6 +25,8 @@ fn answers_to_each_command() {
     script.list(&[2, 3]);
     script.report(24);
     script.report(3);
+    script.write(6);
+    script.write(3);
     let expected = "\
 sweep 7 removed 0
 state n 0 limit 0 place 0 mark 0 end open legs 0
@@ -45,6 +47,10 @@ report 0 length 21
 ...
 report 10 length 0
 ...
+write 0 length 4
+030000002e2e
+write 10 length 0
+2e2e2e
 ";
     assert_eq!(text(script.bytes()), expected);
 }
@@ -79,6 +85,16 @@ fn unknown_and_cut_commands_stop() {
 }
 
 #[test]
+fn buffers_that_are_too_long_stop() {
+    for (opcode, call, longest) in [(b'T', "report", 16_384_u16), (b'B', "write", 640)] {
+        let into = |length: u16| [&[opcode][..], &length.to_le_bytes()].concat();
+        let answer = text(&into(longest));
+        assert!(answer.starts_with(&format!("{call} 7 length 0\n")));
+        assert_eq!(text(&into(longest + 1)), "stop\n");
+    }
+}
+
+#[test]
 fn vectors_are_answered_alike() {
     let script = vectors::script();
     let plain = answers(&Plain, script.bytes());
@@ -91,7 +107,7 @@ fn vectors_are_answered_alike() {
 fn vectors_draw_every_number() {
     let script = vectors::script();
     let text = String::from_utf8(answers(&Fast, script.bytes())).expect("text");
-    let numbers: [(&str, &[u8]); 7] = [
+    let numbers: [(&str, &[u8]); 8] = [
         ("open", &[0, 1, 2, 3, 4, 5, 6]),
         ("sweep", &[0, 7]),
         ("chain", &[0, 7]),
@@ -99,6 +115,7 @@ fn vectors_draw_every_number() {
         ("run", &[0, 7]),
         ("list", &[0, 7, 9]),
         ("report", &[0, 7, 10]),
+        ("write", &[0, 7, 10]),
     ];
     for (call, numbers) in numbers {
         for number in numbers {

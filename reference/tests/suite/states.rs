@@ -92,10 +92,14 @@ fn assert_refused(calls: &dyn Calls, state: WorkState) {
         let checked = calls.list_check(&state, list);
         assert_eq!((checked.number, checked.yes), (7, false));
     }
-    let mut buffer = [b'.'; 100];
-    let reported = calls.report(&state, &mut buffer);
-    assert_eq!((reported.number, reported.length), (7, 0));
-    assert_eq!(buffer, [b'.'; 100]);
+    for room in [0, 100] {
+        let mut buffer = vec![b'.'; room];
+        let reported = calls.report(&state, &mut buffer);
+        assert_eq!((reported.number, reported.length), (7, 0));
+        let written = calls.write(&state, &mut buffer);
+        assert_eq!((written.number, written.length), (7, 0));
+        assert_eq!(buffer, vec![b'.'; room]);
+    }
 }
 
 #[test]

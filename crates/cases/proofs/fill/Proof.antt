@@ -1,12 +1,12 @@
--- `cases::report` is safe, and takes no more than the part. Assumes nothing.
+-- `cases::fill` is safe, and takes no more than the part. Assumes nothing.
 use borrow.Author.Needs.{needs}
 use mathlib.Core.Path.{sym, _∙_}
 use Prim.Native.Nat.{_≤_}
 use native.Mathlib.Nat.{min-eq-left}
 use native.Mathlib.Omega.{arith}
 use lib.ListN.{length, length-take}
-use Rattle.cases.proofs.report.Statement.{statement}
-use Rattle.cases.proofs.report.Tie as tie
+use Rattle.cases.proofs.fill.Statement.{statement}
+use Rattle.cases.proofs.fill.Tie as tie
 
 stop-requires : tie.Need-stop-requires
 stop-requires c κs = search needs
@@ -26,25 +26,28 @@ stop-requires-2 c κs = search needs
 returns-2 : tie.Need-returns-2
 returns-2 c = search needs
 
+shared-slice-read-opcode : tie.Need-shared-slice-read-opcode
+shared-slice-read-opcode c = search needs
+
 filled-requires : tie.Need-filled-requires
 filled-requires c κs = search needs
 
 array-borrow-prefix-buf : tie.Need-array-borrow-prefix-buf
 array-borrow-prefix-buf c = search needs
 
-slice-aggregate-print-report : tie.Need-slice-aggregate-print-report
-slice-aggregate-print-report c =
-    let h : c .before .before .before .read-u16 .result ≤ length (c .before .filled .result) = omega arith in
+slice-aggregate-print-filled : tie.Need-slice-aggregate-print-filled
+slice-aggregate-print-filled c =
+    let h : c .before .before .before .before .read-u16 .result ≤ length (c .before .filled .result) = omega arith in
     sym (length-take _ _ ∙ min-eq-left h)
 
-print-report-requires : tie.Need-print-report-requires
-print-report-requires c κs = search needs
+print-filled-requires : tie.Need-print-filled-requires
+print-filled-requires c κs = search needs
 
 returns-3 : tie.Need-returns-3
 returns-3 c = search needs
 
-pub report-spec : {M : Type 1} → statement M
-report-spec =
+pub fill-spec : {M : Type 1} → statement M
+fill-spec =
     tie.close
     (tie.spec
     stop-requires
@@ -53,8 +56,9 @@ report-spec =
     cast-len
     stop-requires-2
     returns-2
+    shared-slice-read-opcode
     filled-requires
     array-borrow-prefix-buf
-    slice-aggregate-print-report
-    print-report-requires
+    slice-aggregate-print-filled
+    print-filled-requires
     returns-3)
