@@ -4,14 +4,16 @@ use mathlib.Core.Logic.{⊎-elim}
 use mathlib.Core.Bool.{true, false}
 use mathlib.Core.List.{List}
 use Prim.Native.Nat.{ℕ, _≤_, _<_}
-use lib.ListN.{length}
+use native.Mathlib.Omega.{arith}
+use lib.ListN.{length, take, drop}
+use lib.Seq.{take-at}
 use Rattle.bitset.proofs.BoolLaws.{cases, cond-true, cond-false, cond-elim}
 use Rattle.writer.specs.Lent.{short, written}
 use Rattle.writer.specs.inner.Writer.{Wrote}
 use Rattle.writer.proofs.LentLaws.{is-short, has-room, written-short, written-room, written-length}
 use Rattle.circuit.specs.declared.filled.Filled.{Filled}
 use Rattle.circuit.specs.declared.state.Work.{Work}
-use Rattle.circuit.specs.Card.{card}
+use Rattle.circuit.specs.Card.{number, card}
 use Rattle.circuit.specs.State.{bad}
 use Rattle.circuit.specs.Fill.{filled, fillCall, fillBytes}
 use Rattle.circuit.specs.inner.Fills.{Fills}
@@ -53,6 +55,14 @@ module _ (w : Work) (text d : List ℕ) where
   pub fill-length : length (fillBytes w text d) ≡ length d
   unfolding fillBytes
   fill-length = cond-elim (λ (l : List ℕ). length l ≡ length d) (bad w) d (written text d) (λ _. refl) (λ _. written-length text d)
+
+  -- the bytes that a taken call fills are the text
+  pub fill-front : fillCall w text d .answer ≡ card 0 → take (fillCall w text d .len) (fillBytes w text d) ≡ text
+  unfolding fillCall fillBytes filled written
+  fill-front h =
+      ⊎-elim (λ (e : bad w ≡ true). absurd (let k : number (card 7) ≡ 0 = ap number (rw e at h) in let z : ⊥ = omega arith in z)) (λ (e : bad w ≡ false).
+      ⊎-elim (λ (s : short text d ≡ true). absurd (let k : number (card 10) ≡ 0 = ap number (rw (e, s) at h) in let z : ⊥ = omega arith in z))
+      (λ (s : short text d ≡ false). rw (e, s) (take-at text (drop (length text) d) (length text) refl)) (cases (short text d))) (cases (bad w))
 
   -- a refusal has length 0 and changes no byte
   pub fill-refused : (fillCall w text d .answer ≡ card 0 → ⊥) → (fillCall w text d .len ≡ 0) × (fillBytes w text d ≡ d)

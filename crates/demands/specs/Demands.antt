@@ -9,11 +9,11 @@ use Rattle.circuit.specs.declared.state.Work.{Work}
 use Rattle.circuit.specs.Card.{card, ending}
 use Rattle.circuit.specs.Legs.{leg, legs, Subtable}
 use Rattle.circuit.specs.Round.{RoundOf, Drivable}
-use Rattle.circuit.specs.State.{rowsOf, blank, fresh, bad, Good}
+use Rattle.circuit.specs.State.{rowsOf, blank, bad, Good}
 use Rattle.circuit.specs.Check.{checkCall, ListsRound}
 use Rattle.sheet.specs.Layout.{Entry, Page, entriesBytes, bytesOf, EntryFits, WellFormed}
 use Rattle.bitset.specs.Upto.{Each}
-use Rattle.sheet.specs.Open.{refused, openedPage, openCall, TakenSheet}
+use Rattle.sheet.specs.Open.{refused, taken, openedPage, openCall, TakenSheet}
 use Rattle.sheet.specs.Write.{sheetOf, writeCall, writeBytes}
 use Rattle.report.specs.Lines.{reportCall, reportBytes}
 use Rattle.filter.specs.declared.rule.Rule.{Rule}
@@ -81,6 +81,6 @@ pub record Demand3 : Type 0 where
 -- of the list of calls cs, from the opened state w: the sheet of what is left, sent back and opened with a good limit l
 pub record SentBack (w : Work) (cs : List Call) (l : ℕ) : Type 0 where
   -- it is taken, and gives the n and the table that are left
-  pub opens : openCall (sheetOf (afterAll w cs)) l ≡ record { answer = card 0; at = 0; work = fresh (afterAll w cs .n) (rowsOf (afterAll w cs)) l }
+  pub opens : openCall (sheetOf (afterAll w cs)) l ≡ taken (afterAll w cs .n) (rowsOf (afterAll w cs)) l
   -- every leg that was drivable in the opened table stands in that table
   pub drivable : (i j : ℕ) → Drivable (w .n) (rowsOf w) i j → leg (rowsOf (openCall (sheetOf (afterAll w cs)) l .work)) i j ≡ true

@@ -11,14 +11,13 @@ use lib.Pow.{pow-pos}
 use lib.ListN.{length, getD, take, drop, set, length-drop, length-append, length-set, drop-of-length-le}
 use lib.Seq.{drop-cons, drop-drop, take-suc-set}
 use Rattle.circuit.specs.declared.card.Answer.{Answer}
-use Rattle.circuit.specs.declared.card.Answer.the-variants.{Taken, Overhang}
+use Rattle.circuit.specs.declared.card.Answer.the-variants.{Overhang}
 use Rattle.bitset.specs.Sets.{setOf}
 use Rattle.bitset.proofs.MachineLaws.{full-setOf}
 use Rattle.circuit.specs.Legs.{tableOf}
 use Rattle.circuit.specs.inner.Tables.{Square}
-use Rattle.circuit.specs.State.{fresh}
 use Rattle.sheet.specs.Layout.{Entry, free, Page, given}
-use Rattle.sheet.specs.Open.{Got, got, fault, _then_, readEntry, readEntries, readEnd, readRest, refused, opened}
+use Rattle.sheet.specs.Open.{Got, got, fault, _then_, readEntry, readEntries, readEnd, readRest, refused, taken, opened}
 use Rattle.sheet.specs.inner.Reader.{GotAt, FaultAt, nextOf, prevOf, legal}
 use Rattle.sheet.proofs.TableLaws.{barredOf, mapped-at, legal-given}
 
@@ -129,7 +128,7 @@ module _ {n : ℕ} {s next barred : List ℕ} {at : ℕ} (limit : ℕ) (h : SoFa
       rw (h .is, drop-cons s at 0 l) (ap (refused Overhang) e)
 
   pub so-far-whole : length s ≤ at → n ≤ 64
-      → opened (length s) limit (readRest n (drop 1 s)) ≡ record { answer = Taken; at = 0; work = fresh n (tableOf n (legal next barred)) limit }
+      → opened (length s) limit (readRest n (drop 1 s)) ≡ taken n (tableOf n (legal next barred)) limit
   unfolding opened readEnd
   so-far-whole l le =
       let t : tableOf n (legal next barred) ≡ tableOf n (given page) =

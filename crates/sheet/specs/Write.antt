@@ -1,20 +1,20 @@
--- The sheet of what is left, sent back: the page that a table gives, its bytes by the layout, and the call that writes them.
+-- The sheet of what is left, sent back (the struck sheet): the page that a table gives, its bytes by the layout, and the call that writes them.
 use mathlib.Core.Path.{_≡_}
 use mathlib.Core.Bool.{cond}
 use mathlib.Core.List.{List}
 use mathlib.Core.Option.{none, some}
 use Prim.Native.Nat.{ℕ, suc, _-_, _≤_}
 use lib.Dec.{eqb}
-use lib.ListN.{length}
+use lib.ListN.{length, take}
 use Rattle.bitset.specs.Sets.{has, size, first}
 use Rattle.bitset.specs.Upto.{upto, row}
 use Rattle.circuit.specs.declared.state.Work.{Work}
 use Rattle.circuit.specs.declared.filled.Filled.{Filled}
 use Rattle.circuit.specs.Card.{card}
-use Rattle.circuit.specs.State.{rowsOf, fresh, Good}
+use Rattle.circuit.specs.State.{rowsOf, Good}
 use Rattle.circuit.specs.Fill.{fillCall, fillBytes}
 use Rattle.sheet.specs.Layout.{Entry, free, Page, bytesOf}
-use Rattle.sheet.specs.Open.{openCall}
+use Rattle.sheet.specs.Open.{taken, openCall}
 
 -- the record of a station of n whose legs are w: where all n - 1 stand, no field; otherwise, where exactly one stands, that station
 -- fixed; otherwise the next set. A previous set is never written.
@@ -51,9 +51,11 @@ pub record Whole (w : Work) : Type 0 where
 
 -- the sheets of good work states
 pub record Faithful : Type 0 where
+  -- the bytes that a taken call fills are the sheet
+  pub fills : (w : Work) (buffer : List ℕ) → writeCall w buffer .answer ≡ card 0 → take (writeCall w buffer .len) (writeBytes w buffer) ≡ sheetOf w
   -- opening the sheet with any good limit is taken, and gives the same n and table
   pub opens : (w : Work) (limit : ℕ) → Whole w → 1 ≤ limit → limit ≤ 64
-      → openCall (sheetOf w) limit ≡ record { answer = card 0; at = 0; work = fresh (w .n) (rowsOf w) limit }
+      → openCall (sheetOf w) limit ≡ taken (w .n) (rowsOf w) limit
   -- equal bytes are of the same n and table: different tables, or different n, give different bytes
   pub apart : (v w : Work) → Whole v → Whole w → sheetOf v ≡ sheetOf w → (v .n ≡ w .n) × (rowsOf v ≡ rowsOf w)
   -- equal n and tables give equal bytes, whatever place, mark, end and limit are
