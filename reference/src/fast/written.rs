@@ -16,12 +16,9 @@ pub fn write(state: &WorkState, buffer: &mut [u8]) -> Filled {
         .map(|&row| Record::of(row, n));
     let length = 1 + records.clone().map(Record::length).sum::<usize>();
     fill_by(length, buffer, |sheet| {
-        sheet[0] = n as u8;
-        let mut at = 1;
+        let mut rest = put([n as u8], sheet);
         for record in records {
-            let end = at + record.length();
-            record.write(&mut sheet[at..end]);
-            at = end;
+            rest = record.write(rest);
         }
     })
 }
@@ -54,15 +51,21 @@ impl Record {
         }
     }
 
+    /// Gives back what is left behind the record. Each field has a length that
+    /// the compiler knows, so that its copy is a store.
     #[inline]
-    fn write(self, bytes: &mut [u8]) {
+    fn write(self, bytes: &mut [u8]) -> &mut [u8] {
         match self {
-            Record::Full => bytes[0] = 0,
-            Record::Only(index) => bytes.copy_from_slice(&[4, index as u8 + 1]),
-            Record::Set(row) => {
-                bytes[0] = 1;
-                bytes[1..].copy_from_slice(&row.to_le_bytes());
-            }
+            Record::Full => put([0], bytes),
+            Record::Only(index) => put([4, index as u8 + 1], bytes),
+            Record::Set(row) => put(row.to_le_bytes(), put([1], bytes)),
         }
     }
+}
+
+#[inline]
+fn put<const N: usize>(field: [u8; N], bytes: &mut [u8]) -> &mut [u8] {
+    let (start, rest) = bytes.split_first_chunk_mut().expect("room for a field");
+    *start = field;
+    rest
 }

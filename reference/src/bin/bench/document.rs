@@ -24,6 +24,7 @@ cargo run --release --offline --features library --bin bench --manifest-path ref
 
 const NOTES: &str = "\
 - Both get the state in 69 lent words; the Rust version loads it from there and stores it back, and that is part of its time.
+- A write gets the words of the opened state and a lent buffer of 577 bytes, the length of the longest sheet that is written. The Rust version loads the state here too; neither side stores it back. All calls on a table get the same buffer, and it is not cleared between them.
 - The limit is 64. A run goes on until it is stable: only tables with this end are taken. The sheets that are opened have next sets, previous sets and fixed fields.
 - Before each repetition the words are copied in afresh, outside the time taken. Within it the caller clears no buffer; what a call clears of its own working space is part of its time, on both sides.
 - A band has its stations in a line, with legs one or two places on and one place back, and the round that goes up by the odd places and down by the even ones. A run strikes few of its legs in each of many cycles. A plain ring has one round and no other leg. The stations of both are numbered at random.

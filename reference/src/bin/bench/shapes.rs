@@ -3,7 +3,7 @@
 use reference::gen::{plant_round, random, renamed, ring, Family, Sheet, Xorshift};
 use reference::{fast, End, LegTable, WorkState};
 
-use crate::sides::assert_same_run;
+use crate::sides::assert_same_work;
 use crate::{LIMIT, SIZES, TABLES};
 
 /// A kind of tables.
@@ -104,7 +104,7 @@ impl Shape {
             let table = (self.table)(rng, n);
             let state = WorkState::opened(&table, LIMIT as u64);
             if fast::run(state, u32::MAX).state.end == End::Stable {
-                assert_same_run(&state);
+                assert_same_work(&state);
                 let sheet = Sheet::mixed(rng, &table).bytes();
                 return Input { sheet, state };
             }

@@ -1,9 +1,11 @@
 //! The implementations that are timed.
 
 use std::hint::black_box;
+use std::marker::PhantomData;
 
 use reference::library::raw;
 use reference::words::{from_words, to_words, Words};
+use reference::written::WRITTEN_MOST;
 use reference::{fast, WorkState};
 
 use crate::LIMIT;
@@ -13,6 +15,7 @@ pub trait Side {
     type State: Clone;
     fn lend(state: &WorkState) -> Self::State;
     fn open(sheet: &[u8], state: &mut Self::State);
+    fn write(state: &Self::State, buffer: &mut [u8]);
     fn sweep(state: &mut Self::State);
     fn chain(state: &mut Self::State);
     fn pass(state: &mut Self::State, seed: usize);
@@ -33,6 +36,12 @@ impl Side for Proved {
         let mut place = 0;
         black_box(raw::open(sheet, LIMIT, state, &mut place));
         black_box(place);
+    }
+
+    fn write(state: &Words, buffer: &mut [u8]) {
+        let mut length = 0;
+        black_box(raw::write(state, buffer, &mut length));
+        black_box(length);
     }
 
     fn sweep(state: &mut Words) {
@@ -60,97 +69,103 @@ impl Side for Proved {
     }
 }
 
-/// The fast calls on a state that they take and return.
-pub struct Direct;
+/// The fast calls. Each works on a copy of the state, and one that changes it
+/// stores it back.
+pub struct Fast<K>(PhantomData<K>);
 
-impl Side for Direct {
-    type State = WorkState;
+/// The fast calls on a state in their own form.
+pub type Direct = Fast<WorkState>;
 
-    fn lend(state: &WorkState) -> WorkState {
+/// The fast calls on a state in lent words.
+pub type Lent = Fast<Words>;
+
+/// What a state is kept in between fast calls.
+pub trait Kept: Clone {
+    fn store(state: &WorkState) -> Self;
+    fn load(&self) -> WorkState;
+}
+
+impl Kept for WorkState {
+    #[inline]
+    fn store(state: &WorkState) -> WorkState {
         *state
     }
 
-    fn open(sheet: &[u8], state: &mut WorkState) {
-        let opened = fast::open(sheet, LIMIT as u64);
-        black_box((opened.number, opened.place));
-        *state = opened.state;
-    }
-
-    fn sweep(state: &mut WorkState) {
-        let swept = fast::sweep(*state);
-        black_box((swept.number, swept.removed));
-        *state = swept.state;
-    }
-
-    fn chain(state: &mut WorkState) {
-        let chained = fast::chain(*state);
-        black_box((chained.number, chained.removed));
-        *state = chained.state;
-    }
-
-    fn pass(state: &mut WorkState, seed: usize) {
-        let passed = fast::pass(*state, seed as u64);
-        black_box((passed.number, passed.removed));
-        *state = passed.state;
-    }
-
-    fn run(state: &mut WorkState) {
-        let ran = fast::run(*state, u32::MAX);
-        black_box((ran.number, ran.steps, ran.removed));
-        *state = ran.state;
+    #[inline]
+    fn load(&self) -> WorkState {
+        *self
     }
 }
 
-/// The fast calls on a state in lent words.
-pub struct Lent;
-
-#[inline]
-fn load(words: &Words) -> WorkState {
-    from_words(words).expect("words of a state")
-}
-
-impl Side for Lent {
-    type State = Words;
-
-    fn lend(state: &WorkState) -> Words {
+impl Kept for Words {
+    #[inline]
+    fn store(state: &WorkState) -> Words {
         to_words(state)
     }
 
-    fn open(sheet: &[u8], state: &mut Words) {
+    #[inline]
+    fn load(&self) -> WorkState {
+        from_words(self).expect("words of a state")
+    }
+}
+
+impl<K: Kept> Side for Fast<K> {
+    type State = K;
+
+    fn lend(state: &WorkState) -> K {
+        K::store(state)
+    }
+
+    fn open(sheet: &[u8], state: &mut K) {
         let opened = fast::open(sheet, LIMIT as u64);
         black_box((opened.number, opened.place));
-        *state = to_words(&opened.state);
+        *state = K::store(&opened.state);
     }
 
-    fn sweep(state: &mut Words) {
-        let swept = fast::sweep(load(state));
+    fn write(state: &K, buffer: &mut [u8]) {
+        let written = fast::write(&state.load(), buffer);
+        black_box((written.number, written.length));
+    }
+
+    fn sweep(state: &mut K) {
+        let swept = fast::sweep(state.load());
         black_box((swept.number, swept.removed));
-        *state = to_words(&swept.state);
+        *state = K::store(&swept.state);
     }
 
-    fn chain(state: &mut Words) {
-        let chained = fast::chain(load(state));
+    fn chain(state: &mut K) {
+        let chained = fast::chain(state.load());
         black_box((chained.number, chained.removed));
-        *state = to_words(&chained.state);
+        *state = K::store(&chained.state);
     }
 
-    fn pass(state: &mut Words, seed: usize) {
-        let passed = fast::pass(load(state), seed as u64);
+    fn pass(state: &mut K, seed: usize) {
+        let passed = fast::pass(state.load(), seed as u64);
         black_box((passed.number, passed.removed));
-        *state = to_words(&passed.state);
+        *state = K::store(&passed.state);
     }
 
-    fn run(state: &mut Words) {
-        let ran = fast::run(load(state), u32::MAX);
+    fn run(state: &mut K) {
+        let ran = fast::run(state.load(), u32::MAX);
         black_box((ran.number, ran.steps, ran.removed));
-        *state = to_words(&ran.state);
+        *state = K::store(&ran.state);
     }
 }
 
 /// Times mean something only for the same work.
-pub fn assert_same_run(state: &WorkState) {
-    let (mut proved, mut lent) = (to_words(state), to_words(state));
-    Proved::run(&mut proved);
-    Lent::run(&mut lent);
-    assert_eq!(proved, lent);
+pub fn assert_same_work(state: &WorkState) {
+    assert_eq!(written::<Proved>(state), written::<Lent>(state));
+    assert_eq!(stable::<Proved>(state), stable::<Lent>(state));
+}
+
+fn written<S: Side>(state: &WorkState) -> [u8; WRITTEN_MOST] {
+    let mut buffer = [0; WRITTEN_MOST];
+    S::write(&S::lend(state), &mut buffer);
+    buffer
+}
+
+fn stable<S: Side>(state: &WorkState) -> S::State {
+    let mut state = S::lend(state);
+    S::run(&mut state);
+    state
 }

@@ -3,6 +3,8 @@
 use std::hint::black_box;
 use std::time::Instant;
 
+use reference::written::WRITTEN_MOST;
+
 use crate::shapes::{Input, Inputs};
 use crate::sides::{Direct, Lent, Proved, Side};
 use crate::{REPETITIONS, SIZES};
@@ -13,6 +15,7 @@ pub const CALLS: usize = 64;
 #[derive(Clone, Copy)]
 pub enum Timed {
     Open,
+    Write,
     Sweep,
     Chain,
     Pass,
@@ -20,8 +23,9 @@ pub enum Timed {
 }
 
 impl Timed {
-    pub const ALL: [Timed; 5] = [
+    pub const ALL: [Timed; 6] = [
         Timed::Open,
+        Timed::Write,
         Timed::Sweep,
         Timed::Chain,
         Timed::Pass,
@@ -31,6 +35,7 @@ impl Timed {
     pub fn name(self) -> &'static str {
         match self {
             Timed::Open => "open",
+            Timed::Write => "write",
             Timed::Sweep => "sweep",
             Timed::Chain => "chain step",
             Timed::Pass => "pass",
@@ -106,8 +111,10 @@ impl Results {
 fn time<S: Side>(call: Timed, input: &Input) -> f64 {
     let state = S::lend(&input.state);
     let n = input.state.n as usize;
+    let buffer = &mut [0; WRITTEN_MOST];
     match call {
         Timed::Open => median::<S>(&state, CALLS, |_, state| S::open(&input.sheet, state)),
+        Timed::Write => median::<S>(&state, CALLS, |_, state| S::write(state, black_box(buffer))),
         Timed::Sweep => median::<S>(&state, CALLS, |_, state| S::sweep(state)),
         Timed::Chain => median::<S>(&state, CALLS, |_, state| S::chain(state)),
         Timed::Pass => median::<S>(&state, CALLS, |at, state| S::pass(state, at % n + 1)),
@@ -117,7 +124,11 @@ fn time<S: Side>(call: Timed, input: &Input) -> f64 {
 
 /// The median time of a call. A repetition makes `count` calls, each on a copy
 /// of the state of its own.
-pub fn median<S: Side>(state: &S::State, count: usize, call: impl Fn(usize, &mut S::State)) -> f64 {
+pub fn median<S: Side>(
+    state: &S::State,
+    count: usize,
+    mut call: impl FnMut(usize, &mut S::State),
+) -> f64 {
     let mut copies = vec![state.clone(); count];
     median_of(|| {
         copies.fill(state.clone());
