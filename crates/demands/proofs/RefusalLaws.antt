@@ -76,9 +76,7 @@ list-refused w s =
     yes = record { answer = Taken; yes = isList (w .n) (rowsOf w) s }
 
 pub report-refused : (w : Work) (buffer : List ℕ) → Refusal (reportCall w buffer .answer) → (reportCall w buffer .len ≡ 0) × (reportBytes w buffer ≡ buffer)
-unfolding reportCall reportBytes
 report-refused w buffer = fill-refused w (text w) buffer
 
 pub write-refused : (w : Work) (buffer : List ℕ) → Refusal (writeCall w buffer .answer) → (writeCall w buffer .len ≡ 0) × (writeBytes w buffer ≡ buffer)
-unfolding writeCall writeBytes
 write-refused w buffer = fill-refused w (sheetOf w) buffer

@@ -2,3 +2,4 @@
 pub mod Words
 pub mod Results
 pub mod Sequence
+pub mod inner

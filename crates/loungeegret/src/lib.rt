@@ -3,6 +3,7 @@
 // that the card has not, and writes nothing; so no call requires anything of its caller.
 use circuit::Answer;
 use circuit::End;
+use circuit::Filled;
 use circuit::Table;
 use circuit::Work;
 use filter::Rule;
@@ -13,6 +14,7 @@ ghost use Prim.Native.Nat.{_≤_};
 ghost use lib.ListN.{length, take, drop};
 ghost use Rattle.circuit.specs.Card.{number};
 ghost use Rattle.circuit.specs.Check.{checkCall};
+ghost use Rattle.circuit.specs.Fill.{fillCall, fillBytes};
 ghost use Rattle.sheet.specs.Open.{openCall};
 ghost use Rattle.sheet.specs.Write.{writeCall, writeBytes};
 ghost use Rattle.report.specs.Lines.{reportCall, reportBytes};
@@ -20,6 +22,7 @@ ghost use Rattle.filter.specs.Calls.{handCall, sweepCall, chainCall, passCall, 
 ghost use Rattle.output.specs.Program.{programText};
 ghost use Rattle.loungeegret.specs.Words.{stateWords, loaded, storedIn};
 ghost use Rattle.loungeegret.specs.Results.{wordsAfter, OpenResult, CallResult, RunResult, CheckResult, FillResult, PrintResult};
+ghost use Rattle.loungeegret.specs.inner.Content.{contentOf};
 
 // Where the words stand that follow the rows of the table, and how many words a state has.
 const N: usize = 64;
@@ -207,32 +210,47 @@ pub extern "C" fn loungeegret_check_list(state: &[u64], list: &[u8], yes: &mut u
     answer.number()
 }
 
-// Writes the station lines to the start of the buffer, and through `length` how many bytes they are.
+// What a call on a state writes to a lent buffer: the station lines, or the sheet of what is left.
+enum Content {
+    Lines,
+    Sheet,
+}
+
+// The call of the crate below.
+fn put(work: Work, content: Content, buf: &mut [u8]) -> Filled
+    ensures { λ r. ⌜ (r ≡ fillCall work (contentOf content work) (now (buf .entry))) × (now (buf .exit) ≡ fillBytes work (contentOf content work) (now (buf .entry))) ⌝ }
+{
+    match content {
+        Content::Lines => report::report(work, buf),
+        Content::Sheet => sheet::write(work, buf),
+    }
+}
+
+// Writes the content to the start of the buffer, and through `length` how many bytes it is.
+fn fill(state: &[u64], content: Content, buf: &mut [u8], length: &mut usize) -> u32
+    ensures { λ r. ⌜ FillResult (fillCall (loaded (now (state .entry))) (contentOf content (loaded (now (state .entry)))) (now (buf .entry))) (fillBytes (loaded (now (state .entry))) (contentOf content (loaded (now (state .entry)))) (now (buf .entry))) (now (state .entry)) (now (buf .entry)) (now (buf .exit)) (now (length .entry)) (now (length .exit)) r ⌝ }
+{
+    if state.len() < STATE_WORDS {
+        return NO_STATE;
+    }
+    let filled = put(load(state), content, buf);
+    *length = filled.len;
+    let answer = filled.answer;
+    answer.number()
+}
+
 #[no_mangle]
 pub extern "C" fn loungeegret_report(state: &[u64], buf: &mut [u8], length: &mut usize) -> u32
     ensures { λ r. ⌜ FillResult (reportCall (loaded (now (state .entry))) (now (buf .entry))) (reportBytes (loaded (now (state .entry))) (now (buf .entry))) (now (state .entry)) (now (buf .entry)) (now (buf .exit)) (now (length .entry)) (now (length .exit)) r ⌝ }
 {
-    if state.len() < STATE_WORDS {
-        return NO_STATE;
-    }
-    let reported = report::report(load(state), buf);
-    *length = reported.len;
-    let answer = reported.answer;
-    answer.number()
+    fill(state, Content::Lines, buf, length)
 }
 
-// Writes the sheet of what is left to the start of the buffer, and through `length` how many bytes it is.
 #[no_mangle]
 pub extern "C" fn loungeegret_write(state: &[u64], buf: &mut [u8], length: &mut usize) -> u32
     ensures { λ r. ⌜ FillResult (writeCall (loaded (now (state .entry))) (now (buf .entry))) (writeBytes (loaded (now (state .entry))) (now (buf .entry))) (now (state .entry)) (now (buf .entry)) (now (buf .exit)) (now (length .entry)) (now (length .exit)) r ⌝ }
 {
-    if state.len() < STATE_WORDS {
-        return NO_STATE;
-    }
-    let written = sheet::write(load(state), buf);
-    *length = written.len;
-    let answer = written.answer;
-    answer.number()
+    fill(state, Content::Sheet, buf, length)
 }
 
 // Writes what the program prints for the sheet to the start of the buffer, and through `length` how many bytes it is.

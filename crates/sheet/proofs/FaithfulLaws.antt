@@ -25,7 +25,6 @@ unfolding sheetOf
 written-bytes w g = sheet-bytes (pageOf (w .n) (rowsOf w)) (good-well w g)
 
 fills : (w : Work) (buffer : List ℕ) → writeCall w buffer .answer ≡ card 0 → take (writeCall w buffer .len) (writeBytes w buffer) ≡ sheetOf w
-unfolding writeCall writeBytes
 fills w buffer = fill-front w (sheetOf w) buffer
 
 opens : (w : Work) (limit : ℕ) → Whole w → 1 ≤ limit → limit ≤ 64 → openCall (sheetOf w) limit ≡ taken (w .n) (rowsOf w) limit

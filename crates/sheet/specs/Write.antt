@@ -35,11 +35,11 @@ unfoldable pub sheetOf : Work → List ℕ
 sheetOf w = bytesOf (pageOf (w .n) (rowsOf w))
 
 -- what writing the sheet hands back
-unfoldable pub writeCall : Work → List ℕ → Filled
+abbrev pub writeCall : Work → List ℕ → Filled
 writeCall w buffer = fillCall w (sheetOf w) buffer
 
 -- and what it leaves in the buffer
-unfoldable pub writeBytes : Work → List ℕ → List ℕ
+abbrev pub writeBytes : Work → List ℕ → List ℕ
 writeBytes w buffer = fillBytes w (sheetOf w) buffer
 
 -- ---- what the sheet says of the table

@@ -27,14 +27,13 @@ is-bad-requires : tie.Need-is-bad-requires
 is-bad-requires c κs = search needs
 
 returns : tie.Need-returns
-unfolding reportCall reportBytes
 returns c = bad-work _ _ _ (sym (c .before .is-bad .ensures) ∙ c .if1 .taken)
 
 lines-len-requires : tie.Need-lines-len-requires
 lines-len-requires c κs = good _ (state-good (c .before .before)) .most
 
 returns-2 : tie.Need-returns-2
-unfolding text reportCall reportBytes
+unfolding text
 returns-2 c = good-work _ _ _ (state-good (c .before .before .before .before)) (no-room _ _ (omega (arith, c .before .lines-len .ensures)))
 
 put-lines-requires : tie.Need-put-lines-requires
@@ -45,7 +44,7 @@ same-length : tie.Need-same-length
 same-length c = search needs
 
 returns-3 : tie.Need-returns-3
-unfolding text reportCall reportBytes
+unfolding text
 returns-3 c =
     let at = c .before .before .before .before in
     good-work _ _ _ (state-good (at .before .before .before .before)) (taken _ _ _ _ (room at) (c .before .before .put-lines .ensures))

@@ -32,14 +32,13 @@ is-bad-requires : tie.Need-is-bad-requires
 is-bad-requires c κs = search needs
 
 returns : tie.Need-returns
-unfolding writeCall writeBytes
 returns c = bad-work _ _ _ (sym (c .before .is-bad .ensures) ∙ c .if1 .taken)
 
 sheet-len-requires : tie.Need-sheet-len-requires
 sheet-len-requires c κs = let e = state-good (c .before .before .before) in (good _ e .most, below _ e)
 
 returns-2 : tie.Need-returns-2
-unfolding sheetOf writeCall writeBytes
+unfolding sheetOf
 returns-2 c =
     let w : Work = c .before .before .before .before .before .before .before .before .args .work in
     good-work w (sheetOf w) _ (state-good (c .before .before .before .before .before)) (no-room (sheetOf w) _ (omega (arith, c .before .sheet-len .ensures)))
@@ -52,7 +51,7 @@ same-length : tie.Need-same-length
 same-length c = search needs
 
 returns-3 : tie.Need-returns-3
-unfolding sheetOf writeCall writeBytes
+unfolding sheetOf
 returns-3 c =
     let w : Work = c .before .before .before .before .before .before .before .before .before .before .before .before .before .args .work in
     good-work w (sheetOf w) _ (state-good (c .before .before .before .before .before .before .before .before .before .before)) (taken (sheetOf w) _ _ _ (room (c .before .before .before .before .before)) (c .before .before .put-sheet .ensures))

@@ -1,9 +1,9 @@
--- `loungeegret::loungeegret_report` meets its contract, as `loungeegret_sweep` does.
+-- `loungeegret::fill` meets its contract, as `call` does.
 use borrow.Author.Needs.{needs}
 use borrow.Author.Tests.{lt-ltb, le-ltb}
 use Rattle.loungeegret.specs.Results.{onState}
-use Rattle.loungeegret.proofs.loungeegret_report.Statement.{statement}
-use Rattle.loungeegret.proofs.loungeegret_report.Tie as tie
+use Rattle.loungeegret.proofs.fill.Statement.{statement}
+use Rattle.loungeegret.proofs.fill.Tie as tie
 
 returns : tie.Need-returns
 unfolding onState
@@ -12,8 +12,8 @@ returns c = let e = lt-ltb _ _ (c .if1 .taken) in record { number = rw e; bytes 
 load-requires : tie.Need-load-requires
 load-requires c κs = search needs
 
-report-requires : tie.Need-report-requires
-report-requires c κs = search needs
+put-requires : tie.Need-put-requires
+put-requires c κs = search needs
 
 number-requires : tie.Need-number-requires
 number-requires c κs = search needs
@@ -27,10 +27,10 @@ returns-2 c =
     let q = c .before .before .before in
     let e = le-ltb _ _ (q .before .before .before .if1 .left) in
     let w = q .before .before .load .ensures in
-    let d = rw w at (q .report .ensures .0) in
-    record { number = rw (e, ← d) (c .number .ensures); bytes = rw e (rw w at (q .report .ensures .1)); len = rw (e, ← d) }
+    let d = rw w at (q .put .ensures .0) in
+    record { number = rw (e, ← d) (c .number .ensures); bytes = rw e (rw w at (q .put .ensures .1)); len = rw (e, ← d) }
 
-pub loungeegret-report-spec : {M : Type 1} → statement M
-loungeegret-report-spec =
+pub fill-spec : {M : Type 1} → statement M
+fill-spec =
     tie.close
-    (tie.spec returns load-requires report-requires number-requires same-length returns-2)
+    (tie.spec returns load-requires put-requires number-requires same-length returns-2)
