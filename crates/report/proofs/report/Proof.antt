@@ -8,7 +8,7 @@ use lib.ListN.{length}
 use Rattle.circuit.specs.State.{bad}
 use Rattle.circuit.proofs.StateLaws.{good}
 use Rattle.circuit.proofs.FillLaws.{no-room, taken, bad-work, good-work}
-use Rattle.report.specs.Lines.{text, reportCall, reportBytes}
+use Rattle.report.specs.Lines.{text}
 use Rattle.report.proofs.report.Statement.{statement}
 use Rattle.report.proofs.report.Tie as tie
 

@@ -10,7 +10,7 @@ use Rattle.circuit.specs.State.{rowsOf, bad}
 use Rattle.circuit.specs.inner.Tables.{Square}
 use Rattle.circuit.proofs.StateLaws.{good, stray-row}
 use Rattle.circuit.proofs.FillLaws.{bad-work, good-work, no-room, taken}
-use Rattle.sheet.specs.Write.{sheetOf, writeCall, writeBytes}
+use Rattle.sheet.specs.Write.{sheetOf}
 use Rattle.sheet.proofs.write.Statement.{statement}
 use Rattle.sheet.proofs.write.Tie as tie
 
