@@ -216,13 +216,14 @@ enum Content {
     Sheet,
 }
 
-// The call of the crate below.
-fn put(work: Work, content: Content, buf: &mut [u8]) -> Filled
-    ensures { λ r. ⌜ (r ≡ fillCall work (contentOf content work) (now (buf .entry))) × (now (buf .exit) ≡ fillBytes work (contentOf content work) (now (buf .entry))) ⌝ }
+// The call of the crate below. The state is loaded here, so that it is not copied once more.
+fn put(state: &[u64], content: Content, buf: &mut [u8]) -> Filled
+    requires { ⌜ stateWords ≤ length (now state) ⌝ }
+    ensures { λ r. ⌜ (r ≡ fillCall (loaded (now (state .entry))) (contentOf content (loaded (now (state .entry)))) (now (buf .entry))) × (now (buf .exit) ≡ fillBytes (loaded (now (state .entry))) (contentOf content (loaded (now (state .entry)))) (now (buf .entry))) ⌝ }
 {
     match content {
-        Content::Lines => report::report(work, buf),
-        Content::Sheet => sheet::write(work, buf),
+        Content::Lines => report::report(load(state), buf),
+        Content::Sheet => sheet::write(load(state), buf),
     }
 }
 
@@ -233,7 +234,7 @@ fn fill(state: &[u64], content: Content, buf: &mut [u8], length: &mut usize) -> 
     if state.len() < STATE_WORDS {
         return NO_STATE;
     }
-    let filled = put(load(state), content, buf);
+    let filled = put(state, content, buf);
     *length = filled.len;
     let answer = filled.answer;
     answer.number()
