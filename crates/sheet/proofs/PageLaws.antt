@@ -8,7 +8,7 @@ use Prim.Native.Nat.{ℕ, suc, _-_, _^_, _≤_, _<_}
 use native.Mathlib.Omega.{arith}
 use lib.Dec.{eqb}
 use lib.ListN.{length}
-use borrow.Author.Tests.{eq-eqb, eqb-true}
+use borrow.Author.Tests.{eq-eqb, eqb-true, eqb-false}
 use Rattle.bitset.specs.Sets.{has, size, first}
 use Rattle.bitset.specs.Upto.{row}
 use Rattle.bitset.proofs.BoolLaws.{iff, cases, eqb-swap, cond-elim}
@@ -35,12 +35,12 @@ module _ (n w : ℕ) where
   abbrev listing : Entry
   listing = record { next = some w; prev = none; fixed = none }
 
-  -- what holds of the record, by its three forms
-  pub entry-cases : (P : Entry → Type 0) → (size n w ≡ n - 1 → P free) → (size n w ≡ 1 → P fixing) → P listing → P (entryOf n w)
+  -- what holds of the record, by its three forms: one leg is asked for only where not all stand
+  pub entry-cases : (P : Entry → Type 0) → (size n w ≡ n - 1 → P free) → ((size n w ≡ n - 1 → ⊥) → size n w ≡ 1 → P fixing) → P listing → P (entryOf n w)
   unfolding entryOf
   entry-cases P all one set =
-      cond-elim P (eqb (size n w) (n - 1)) free (cond (eqb (size n w) 1) fixing listing) (λ e. all (eqb-true (size n w) (n - 1) e)) (λ _.
-      cond-elim P (eqb (size n w) 1) fixing listing (λ e. one (eqb-true (size n w) 1 e)) (λ _. set))
+      cond-elim P (eqb (size n w) (n - 1)) free (cond (eqb (size n w) 1) fixing listing) (λ e. all (eqb-true (size n w) (n - 1) e)) (λ d.
+      cond-elim P (eqb (size n w) 1) fixing listing (λ e. one (eqb-false (size n w) (n - 1) d) (eqb-true (size n w) 1 e)) (λ _. set))
 
   -- the only leg is one
   only-leg : size n w ≡ 1 → (only < n) × (has w only ≡ true)
@@ -50,19 +50,19 @@ module _ (n w : ℕ) where
   entry-fits : w < 2 ^ n → EntryFits n (entryOf n w)
   entry-fits h =
       entry-cases (EntryFits n) (λ _. record { next = tt; prev = tt; fixed = tt })
-      (λ e. record { next = tt; prev = tt; fixed = omega (arith, only-leg e .0) })
+      (λ _ e. record { next = tt; prev = tt; fixed = omega (arith, only-leg e .0) })
       (record { next = h; prev = tt; fixed = tt })
 
   -- it has no previous set
   entry-prev : entryOf n w .prev ≡ none
-  entry-prev = entry-cases (λ e. e .prev ≡ none) (λ _. refl) (λ _. refl) refl
+  entry-prev = entry-cases (λ e. e .prev ≡ none) (λ _. refl) (λ _ _. refl) refl
 
   -- where i has no leg to itself, it allows another station j where the leg stands
   entry-says : (i j : ℕ) → i < n → j < n → has w i ≡ false → eqb i j ≡ false → allows (entryOf n w .next) j && fixes (entryOf n w .fixed) j ≡ has w j
   entry-says i j li lj own other =
       entry-cases (λ e. allows (e .next) j && fixes (e .fixed) j ≡ has w j)
       (λ e. sym (size-rest n w i j e li lj own (eqb-swap j i ∙ other)))
-      (λ e.
+      (λ _ e.
       let it = only-leg e in
       iff (eqb (suc only) (suc j)) (has w j)
       (λ q. let same : only ≡ j = omega (arith, eqb-true (suc only) (suc j) q) in ap (has w) (sym same) ∙ it .1)

@@ -48,7 +48,7 @@ sheet-sized lo hi w f =
 pub entry-most : (n w : ℕ) → length (entryBytes (entryOf n w) []) ≤ 9
 unfolding entryBytes
 entry-most n w =
-    entry-cases n w (λ e. length (entryBytes e []) ≤ 9) (λ _. omega arith) (λ _. omega arith) (omega (arith, length-bytes 8 w []))
+    entry-cases n w (λ e. length (entryBytes e []) ≤ 9) (λ _. omega arith) (λ _ _. omega arith) (omega (arith, length-bytes 8 w []))
 
 -- The sheet of n stations has one byte, and at most 9 for each.
 pub sheet-length : (w : Work) → length (sheetOf w) ≤ 1 + 9 * w .n
