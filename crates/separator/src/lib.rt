@@ -27,7 +27,7 @@ pub fn strike(
 {
     let mut parts = [0u64; 64];
     let count = reach::components_of(nbr, bitset::full(n) & !s, &mut parts);
-    let spares = level::spare_stations(rows, s, &parts, count);
+    let spares = level::spare_stations(rows, cols, s, &parts, count);
     if spares.none {
         return true;
     }

@@ -2,26 +2,35 @@
 use mathlib.Core.Path.{_≡_}
 use mathlib.Core.Bool.{Bool, true, false, not, cond, _&&_}
 use mathlib.Core.List.{List}
-use Prim.Native.Nat.{ℕ, zero, suc, _<_}
+use Prim.Native.Nat.{ℕ, zero, suc, _^_, _<_}
 use lib.ListN.{length}
-use Rattle.bitset.specs.Sets.{has, any, setOf, meet}
+use Rattle.bitset.specs.Sets.{has, any, setOf}
 use Rattle.bitset.specs.Tests.{Decides}
 use Rattle.bitset.specs.Upto.{row}
-use Rattle.circuit.specs.Legs.{leg, col}
+use Rattle.circuit.specs.Legs.{leg}
 use Rattle.matching.specs.Matching.{Assignment, LeftOut}
+use Rattle.separator.specs.declared.level.Core.{Core}
 use Rattle.separator.specs.declared.level.Spares.{Spares}
+use Rattle.separator.specs.Components.{grow}
 use Rattle.separator.specs.Level.{marking, passable, struck}
 
 -- ---- marks
 
--- the stations of s that have a leg from the component w
-unfoldable pub entered : List ℕ → ℕ → ℕ → ℕ
-entered t s w = setOf 64 (λ j. has s j && meet 64 (col 64 t j) w)
+-- the stations that have a leg from a station of w
+unfoldable pub entered : List ℕ → ℕ → ℕ
+entered t w = setOf 64 (λ j. any 64 (λ d. has w d && leg t d j))
 
--- the stations of s in which the mark m can end: all, where it is bare, and otherwise those that have a leg from its component
-unfoldable pub lastOf : List ℕ → ℕ → List ℕ → ℕ → ℕ
-lastOf t s cs zero = s
-lastOf t s cs (suc c) = entered t s (row cs c)
+-- the component of the mark m; bare has none
+unfoldable pub partOf : List ℕ → ℕ → ℕ
+partOf cs zero = 0
+partOf cs (suc c) = row cs c
+
+-- A core of the component w: by legs inside w each station of `back` leads to all of `ahead`, and from there no leg leads further.
+pub record CoreOf (t : List ℕ) (w : ℕ) (core : Core) : Type 0 where
+  pub fits : core .ahead < 2 ^ 64
+  pub closed : (a b : ℕ) → a < 64 → b < 64 → leg t a b ≡ true → has w b ≡ true → has (core .ahead) a ≡ true → has (core .ahead) b ≡ true
+  pub leads : (a b : ℕ) → has (core .back) a ≡ true → has (core .ahead) b ≡ true → has (grow 64 64 (leg t) w (2 ^ a)) b ≡ true
+  pub beyond : core .beyond ≡ entered t (core .ahead)
 
 -- `tails` has the first and `heads` the second stations of the pairs on which a mark stands
 pub record EndsOf (on : ℕ → ℕ → Bool) (tails heads : ℕ) : Type 0 where
