@@ -12,51 +12,59 @@ use borrow.Author.Tests.{eqb-true, ltb-true, lt-ltb}
 use Rattle.bitset.specs.Sets.{has, setOf, any, meet}
 use Rattle.bitset.proofs.BoolLaws.{iff, eqb-swap, and-intro, and-l, and-r, taut3}
 use Rattle.bitset.proofs.HasLaws.{has-zero, has-and, has-or}
-use Rattle.bitset.proofs.SetLaws.{has-setOf, setOf-ext, eq-setOf, word-lt, word-has}
+use Rattle.bitset.proofs.SetLaws.{setOf-lt, has-setOf, eq-setOf, word-lt, word-has}
 use Rattle.bitset.proofs.OnesLaws.{has-pos}
-use Rattle.bitset.proofs.QuantLaws.{any-intro, any-elim, any-ext}
+use Rattle.bitset.proofs.QuantLaws.{any-intro, any-elim, any-ext, any-or}
 use Rattle.bitset.proofs.LeastLaws.{trailing-least, has-clear}
 use Rattle.bitset.proofs.MemberLaws.{any-least, any-empty}
 use Rattle.bitset.proofs.MachineLaws.{shl-one, has-remove}
-use Rattle.bitset.proofs.WordLaws.{meet-some, meet-none}
 use Rattle.bitset.specs.Upto.{row}
 use Rattle.circuit.specs.Legs.{leg, col}
-use Rattle.separator.specs.Level.{joins, stands, marked}
-use Rattle.separator.specs.inner.Spares.{entered, lastOf, EndsOf}
+use Rattle.separator.specs.Components.{grow}
+use Rattle.separator.specs.Level.{ledTo, joins, stands, marked}
+use Rattle.separator.specs.inner.Spares.{entered, partOf, EndsOf}
 
 -- ---- the small functions
 
-module _ (t : List ℕ) (s : ℕ) where
-  pub entered-is : (w u : ℕ) → s < 2 ^ 64 → u ≡ setOf 64 (λ k. any 64 (λ i. has w i && has (row t i) k)) → bitAnd u s ≡ entered t s w
-  unfolding entered meet col leg
-  entered-is w u h e =
-      eq-setOf 64 (bitAnd u s) _ (omega (arith, and-le-r u s))
-      (λ k l. has-and u s k ∙ and-comm (has u k) (has s k) ∙ ap (λ (x : Bool). has s k && x)
-      (word-has 64 (λ k. any 64 (λ i. has w i && has (row t i) k)) e k l
-      ∙ any-ext 64 _ _ (λ i li.
-      and-comm (has w i) (has (row t i) k) ∙ ap (λ (x : Bool). x && has w i) (sym (has-setOf 64 (λ i. has (row t i) k) i li)))))
+module _ (t : List ℕ) where
+  -- the stations that have a leg from one of two sets
+  pub entered-both : (a b : ℕ) → bitOr (entered t a) (entered t b) ≡ entered t (bitOr a b)
+  unfolding entered
+  entered-both a b =
+      eq-setOf 64 (bitOr (entered t a) (entered t b)) _ (or-lt 64 (entered t a) (entered t b) (setOf-lt 64 _) (setOf-lt 64 _)) (λ j l.
+      has-or (entered t a) (entered t b) j
+      ∙ ap₂ (λ (x y : Bool). x || y) (has-setOf 64 (λ j. any 64 (λ d. has a d && leg t d j)) j l) (has-setOf 64 (λ j. any 64 (λ d. has b d && leg t d j)) j l)
+      ∙ sym (any-or 64 (λ d. has a d && leg t d j) (λ d. has b d && leg t d j))
+      ∙ any-ext 64 _ _ (λ d ld.
+      taut3 (λ x y z. x && z || y && z) (λ x y z. (x || y) && z) refl (has a d) (has b d) (leg t d j) ∙ ap (λ (x : Bool). x && leg t d j) (sym (has-or a b d))))
 
-  -- the stations of s that the component w joins i to
-  module _ (w i : ℕ) where
-    pub joined-some : (v : ℕ) → v ≡ entered t s w → w < 2 ^ 64 → 0 < bitAnd (row t i) w → v ≡ setOf 64 (λ j. has s j && joins 64 t w i j)
-    unfolding entered joins
-    joined-some v e h p = e ∙ setOf-ext 64 _ _ (λ j l. ap (λ (x : Bool). has s j && (x && meet 64 (col 64 t j) w)) (sym (meet-some 64 (row t i) w h p)))
+  -- the stations of s that the component w joins i to are those that have a leg from where the ways in lead
+  pub joined-is : (s w i v : ℕ) → s < 2 ^ 64 → w < 2 ^ 64 → v ≡ entered t (grow 64 64 (leg t) w (bitAnd (row t i) w))
+      → bitAnd v s ≡ setOf 64 (λ j. has s j && joins 64 t w i j)
+  unfolding entered joins ledTo meet col leg
+  joined-is s w i v hs hw e =
+      eq-setOf 64 (bitAnd v s) _ (omega (arith, and-le-r v s)) (λ j l.
+      has-and v s j ∙ and-comm (has v j) (has s j) ∙ ap (λ (x : Bool). has s j && x)
+      (word-has 64 (λ j. any 64 (λ d. has into d && has (row t d) j)) e j l
+      ∙ any-ext 64 _ _ (λ d ld.
+      and-comm (has into d) (has (row t d) j)
+      ∙ ap₂ (λ (x y : Bool). x && y) (sym (has-setOf 64 (λ d. has (row t d) j) d ld)) (ap (λ (u : ℕ). has (grow 64 64 (leg t) w u) d) ways))))
+    where
+      into : ℕ
+      into = grow 64 64 (leg t) w (bitAnd (row t i) w)
 
-    pub joined-none : bitAnd (row t i) w ≡ 0 → 0 ≡ setOf 64 (λ j. has s j && joins 64 t w i j)
-    unfolding joins
-    joined-none z =
-        eq-setOf 64 0 _ (omega arith) (λ j l. has-zero j ∙ sym (
-        ap (λ (x : Bool). has s j && (x && meet 64 (col 64 t j) w)) (meet-none 64 (row t i) w z) ∙ and-false (has s j)))
+      ways : bitAnd (row t i) w ≡ setOf 64 (λ c. has (row t i) c && has w c)
+      ways = eq-setOf 64 (bitAnd (row t i) w) _ (omega (arith, and-le-r (row t i) w)) (λ c l. has-and (row t i) w c)
 
 -- the mark m, bare or of the component at place m - 1
 module _ (t : List ℕ) (s : ℕ) (cs : List ℕ) where
-  pub last-bare : (m : ℕ) → m ≡ 0 → s ≡ lastOf t s cs m
-  last-bare m z = rw z (unfold lastOf in refl)
+  pub part-bare : (m : ℕ) → m ≡ 0 → 0 ≡ partOf cs m
+  part-bare m z = rw z (unfold partOf in refl)
 
-  pub last-entered : (m : ℕ) → 0 < m → lastOf t s cs m ≡ entered t s (row cs (m - 1))
-  unfolding lastOf
-  last-entered zero p = absurd (omega arith)
-  last-entered (suc c) p = let place : c ≡ suc c - 1 = omega arith in ap (λ (z : ℕ). entered t s (row cs z)) place
+  pub part-at : (m : ℕ) → 0 < m → row cs (m - 1) ≡ partOf cs m
+  unfolding partOf
+  part-at zero p = absurd (omega arith)
+  part-at (suc c) p = let place : suc c - 1 ≡ c = omega arith in ap (row cs) place
 
   pub heads-bare : (i m : ℕ) → m ≡ 0 → s < 2 ^ 64 → bitAnd (row t i) s ≡ setOf 64 (λ j. has s j && stands 64 t cs i j m)
   heads-bare i m z h = rw z (unfold stands in unfold leg in (

@@ -3,15 +3,16 @@
 use mathlib.Core.Path.{_≡_, sym, ap, _∙_}
 use mathlib.Core.Logic.{_⊎_, ⊎-elim}
 use mathlib.Core.Bool.{Bool, true, false, not, _&&_, _||_}
-use Prim.Native.Nat.{ℕ, zero, suc, _^_, _≤_, _<_}
+use Prim.Native.Nat.{ℕ, zero, suc, _-_, _^_, _≤_, _<_}
 use native.Mathlib.Nat.{lt-of-lt-of-le}
-use lib.Bits.{bitOr, or-lt}
+use native.Mathlib.Omega.{arith}
+use lib.Bits.{bitAnd, bitOr, and-le-l, or-lt}
 use Rattle.bitset.specs.Sets.{has}
 use Rattle.bitset.specs.inner.Members.{Within}
 use Rattle.bitset.proofs.BoolLaws.{iff, not-both, cases, and-intro, and-l, and-r, or-l, or-r, or-cases}
 use Rattle.bitset.proofs.QuantLaws.{any-intro, any-elim}
 use Rattle.bitset.proofs.HasLaws.{has-zero, has-or, member-below, ext}
-use Rattle.bitset.proofs.SetLaws.{setOf-lt, has-setOf}
+use Rattle.bitset.proofs.SetLaws.{setOf-lt, has-setOf, has-diff}
 use Rattle.bitset.proofs.MachineLaws.{wide}
 use Rattle.separator.specs.Components.{spread, grow}
 use Rattle.separator.proofs.ComponentLaws.{Closed, grown-closed, grow-keeps}
@@ -25,18 +26,27 @@ module _ (n : ℕ) (R : ℕ → ℕ → Bool) (room : ℕ) where
 
   -- ---- the least closed set that holds its start
 
-  spread-within : (v w : ℕ) → Closed n R room w → Within n v w → Within n (spread n R room v) w
-  unfolding spread
-  spread-within v w c s j l e =
-      ⊎-elim (s j l) (λ q.
-      let (i, li, hi, r) = leads-elim v j (and-r (has room j) (leads n R v j) q) in
-      c i j li l r (and-l (has room j) (leads n R v j) q) (s i li hi))
-      (or-cases (has v j) (has room j && leads n R v j) (sym (has-setOf n (λ k. has v k || has room k && leads n R v k) j l) ∙ e))
+  -- what holds of the start, and goes on along R inside the room, holds of all that is grown
+  module _ (P : ℕ → Type 0) (on : (i j : ℕ) → i < n → j < n → R i j ≡ true → has room j ≡ true → P i → P j) where
+    abbrev Each : ℕ → Type 0
+    Each w = (k : ℕ) → k < n → has w k ≡ true → P k
 
-  grow-within : (f v w : ℕ) → Closed n R room w → Within n v w → Within n (grow f n R room v) w
-  unfolding grow
-  grow-within zero v w c s = s
-  grow-within (suc f) v w c s = grow-within f (spread n R room v) w c (spread-within v w c s)
+    spread-each : (w : ℕ) → Each w → Each (spread n R room w)
+    unfolding spread
+    spread-each w s j l e =
+        ⊎-elim (s j l) (λ q.
+        let (i, li, hi, r) = leads-elim w j (and-r (has room j) (leads n R w j) q) in
+        on i j li l r (and-l (has room j) (leads n R w j) q) (s i li hi))
+        (or-cases (has w j) (has room j && leads n R w j) (sym (has-setOf n (λ k. has w k || has room k && leads n R w k) j l) ∙ e))
+
+    pub grow-each : (f w : ℕ) → Each w → Each (grow f n R room w)
+    unfolding grow
+    grow-each zero w s = s
+    grow-each (suc f) w s = grow-each f (spread n R room w) (spread-each w s)
+
+  -- so it is within each closed set that holds the start
+  pub grow-within : (f v w : ℕ) → Closed n R room w → Within n v w → Within n (grow f n R room v) w
+  grow-within f v w c s = grow-each (λ k. has w k ≡ true) c f v s
 
   pub grow-lt : (f w : ℕ) → w < 2 ^ n → grow f n R room w < 2 ^ n
   unfolding grow spread
@@ -132,11 +142,47 @@ module _ (n : ℕ) (R : ℕ → ℕ → Bool) (room rest : ℕ) (inside : Within
       (grow-within n R rest n start (grow n n R room start)
       (λ a b la lb r d e. grown-closed n R room start a b la lb r (inside b lb d) e) (grow-keeps n R room n start))
 
+-- a set that is closed, and in what is grown, need not be grown again: only what lies beside it is
+module _ (n : ℕ) (R : ℕ → ℕ → Bool) (room start ahead : ℕ) (hs : start < 2 ^ n) (ha : ahead < 2 ^ n) where
+  -- outside of it
+  abbrev beside : ℕ → ℕ
+  beside w = bitAnd w ((2 ^ n - 1) - ahead)
+
+  in-beside : (w k : ℕ) → k < n → has w k ≡ true → has ahead k ≡ false → has (beside w) k ≡ true
+  in-beside w k l e z = has-diff n w ahead k ha l ∙ and-intro e (ap not z)
+
+  beside-in : (w : ℕ) → Within n (beside w) w
+  beside-in w k l e = and-l (has w k) (not (has ahead k)) (sym (has-diff n w ahead k ha l) ∙ e)
+
+  rest : ℕ
+  rest = grow n n R (beside room) (beside start)
+
+  both-elim : (k : ℕ) → has (bitOr ahead rest) k ≡ true → (has ahead k ≡ true) ⊎ (has rest k ≡ true)
+  both-elim k e = or-cases (has ahead k) (has rest k) (sym (has-or ahead rest k) ∙ e)
+
+  both-intro : (k : ℕ) → (has ahead k ≡ false → has rest k ≡ true) → has (bitOr ahead rest) k ≡ true
+  both-intro k f = has-or ahead rest k ∙ ⊎-elim (or-l (has rest k)) (λ z. or-r (has ahead k) (f z)) (cases (has ahead k))
+
+  pub grow-beside : Closed n R room ahead → Within n ahead (grow n n R room start)
+      → bitOr ahead (grow n n R (beside room) (beside start)) ≡ grow n n R room start
+  unfolding rest
+  grow-beside kept within =
+      grow-is n R room start (bitOr ahead rest) hs (or-lt n ahead rest ha (grow-lt n R (beside room) n (beside start) (omega (arith, and-le-l start ((2 ^ n - 1) - ahead)))))
+      (λ a b la lb r d e. ⊎-elim
+      (λ q. has-or ahead rest b ∙ or-l (has rest b) (kept a b la lb r d q))
+      (λ q. both-intro b (λ z. grown-closed n R (beside room) (beside start) a b la lb r (in-beside room b lb d z) q))
+      (both-elim a e))
+      (λ k l e. both-intro k (λ z. grow-keeps n R (beside room) n (beside start) k l (in-beside start k l e z)))
+      (λ k l e. ⊎-elim (within k l)
+      (grow-within n R (beside room) n (beside start) (grow n n R room start)
+      (λ a b la lb r d. grown-closed n R room start a b la lb r (beside-in room b lb d)) (λ j lj f. grow-keeps n R room n start j lj (beside-in start j lj f)) k l)
+      (both-elim k e))
+
 -- ---- more stations
 
 -- n stations read as m, where the two relations are the same
 pub grow-width : (n m : ℕ) (R Q : ℕ → ℕ → Bool) (room w : ℕ) → n ≤ m → w < 2 ^ n
-    → ((i j : ℕ) → Q i j ≡ true → (i < n) × (j < n) × (R i j ≡ true)) → ((i j : ℕ) → i < n → j < n → R i j ≡ true → Q i j ≡ true)
+    → ((i j : ℕ) → i < m → j < m → Q i j ≡ true → (i < n) × (j < n) × (R i j ≡ true)) → ((i j : ℕ) → i < n → j < n → R i j ≡ true → Q i j ≡ true)
     → grow m m Q room w ≡ grow n n R room w
 grow-width n m R Q room w most h narrow widen = sym (grow-is m Q room w less (wide most h) (wide most small) closed holds within)
   where
@@ -147,7 +193,7 @@ grow-width n m R Q room w most h narrow widen = sym (grow-is m Q room w less (wi
     small = grow-lt n R room n w h
 
     closed : Closed m Q room less
-    closed a b _ _ r d e = let (la, lb, s) = narrow a b r in grown-closed n R room w a b la lb s d e
+    closed a b wa wb r d e = let (la, lb, s) = narrow a b wa wb r in grown-closed n R room w a b la lb s d e
 
     holds : Within m w less
     holds k l e = grow-keeps n R room n w k (member-below n w k h e) e

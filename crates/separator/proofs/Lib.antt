@@ -22,6 +22,7 @@ pub mod PartLaws
 pub mod RepresentativeLaws
 pub mod TakesLaws
 pub mod CleanLaws
+pub mod CoreLaws
 pub mod EndsLaws
 pub mod SideLaws
 pub mod StandLaws

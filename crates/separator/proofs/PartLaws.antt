@@ -181,7 +181,7 @@ module _ (n m : ℕ) (R Q : ℕ → ℕ → Bool) (room : ℕ) (most : n ≤ m) 
 
         wider : c ≡ grow m m Q room (2 ^ first m (has rest))
         wider =
-            sym (grow-width n m R Q room (2 ^ trailingZeros m rest) most (pow-lt (least-below n m R room rest most h p)) narrow widen)
+            sym (grow-width n m R Q room (2 ^ trailingZeros m rest) most (pow-lt (least-below n m R room rest most h p)) (λ i j _ _. narrow i j) widen)
             ∙ part-first m m Q room rest (omega arith) (wide most h) p
 
     left-fewer : ones (left rest) < ones rest

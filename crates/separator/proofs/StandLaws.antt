@@ -7,20 +7,22 @@ use Prim.Native.Nat.{ℕ, zero, suc, _≤_, _<_}
 use native.Mathlib.Nat.{zero-lt-suc, le-of-suc-le-suc, lt-of-lt-of-le}
 use native.Mathlib.Omega.{arith}
 use lib.Dec.{eqb}
-use Rattle.bitset.specs.Sets.{has, setOf, any, meet}
+use Rattle.bitset.specs.Sets.{has, setOf, meet}
 use Rattle.bitset.specs.Upto.{row}
-use Rattle.bitset.proofs.BoolLaws.{not-both, and-l}
-use Rattle.bitset.proofs.SetLaws.{has-setOf}
-use Rattle.bitset.proofs.QuantLaws.{any-ext, any-low}
-use Rattle.bitset.proofs.UptoLaws.{getD-upto}
-use Rattle.circuit.specs.Legs.{leg, col}
+use Rattle.bitset.proofs.BoolLaws.{iff, not-both, and-l}
+use Rattle.bitset.proofs.SetLaws.{setOf-lt, has-setOf, setOf-elim, eq-setOf}
+use Rattle.bitset.proofs.QuantLaws.{any-low}
+use Rattle.bitset.proofs.MachineLaws.{wide}
+use Rattle.bitset.proofs.UptoLaws.{getD-upto, upto-cong}
+use Rattle.circuit.specs.Legs.{leg, col, columns}
 use Rattle.circuit.specs.State.{stray}
 use Rattle.circuit.proofs.StateLaws.{stray-self}
-use Rattle.separator.specs.Components.{components}
-use Rattle.separator.specs.Level.{joins, stands, marked, marking, marks}
+use Rattle.separator.specs.Components.{grow, components}
+use Rattle.separator.specs.Level.{ledTo, joins, stands, marked, marking, marks}
 use Rattle.separator.specs.inner.Reach.{Listed}
 use Rattle.separator.proofs.PartLaws.{components-most}
 use Rattle.separator.proofs.CleanLaws.{leg-low}
+use Rattle.separator.proofs.GrowLaws.{grow-width}
 use Rattle.separator.proofs.MarkingLaws.{marked-intro, marks-marked}
 
 -- of the list, a mark sees its own component alone
@@ -31,17 +33,35 @@ stands-list n t cs ds i j p zero l f = refl
 stands-list n t cs ds i j p (suc c) l f = ap (λ (w : ℕ). joins n t w i j) (f c (le-of-suc-le-suc l))
 
 module _ (n : ℕ) (t : List ℕ) (most : n ≤ 64) (clean : stray n t ≡ false) where
-  joins-64 : (w i j : ℕ) → i < n → joins n t w i j ≡ joins 64 t w i j
-  unfolding joins meet col leg
-  joins-64 w i j li =
-      ap₂ (λ (x y : Bool). x && y)
-      (sym (any-low 64 n (λ k. leg t i k && has w k) most (λ k l e. leg-low n t most clean i k (lt-of-lt-of-le li most) (and-l (leg t i k) (has w k) e) .1)))
-      (column n
-      ∙ sym (any-low 64 n (λ k. leg t k j && has w k) most (λ k l e. leg-low n t most clean k j l (and-l (leg t k j) (has w k) e) .0))
-      ∙ sym (column 64))
+  -- what is found below 64 is below n
+  setOf-low : (p : ℕ → Bool) → ((k : ℕ) → k < 64 → p k ≡ true → k < n) → setOf n p ≡ setOf 64 p
+  setOf-low p f =
+      eq-setOf 64 (setOf n p) p (wide most (setOf-lt n p)) (λ k l. iff (has (setOf n p) k) (p k) (λ e. setOf-elim n p k e .1) (λ e. has-setOf n p k (f k l e) ∙ e))
+
+  col-64 : (j : ℕ) → col n t j ≡ col 64 t j
+  unfolding col
+  col-64 j = setOf-low (λ i. leg t i j) (λ i l e. leg-low n t most clean i j l e .0)
+
+  pub columns-64 : columns n t ≡ columns 64 t
+  columns-64 = upto-cong 64 _ _ (λ k l. col-64 k)
+
+  led-64 : (w i : ℕ) → i < n → ledTo n t w i ≡ ledTo 64 t w i
+  unfolding ledTo
+  led-64 w i li =
+      sym (grow-width n 64 (leg t) (leg t) w (setOf n into) most (setOf-lt n into)
+      (λ a b la lb e. let (na, nb) = leg-low n t most clean a b la e in (na, nb, e)) (λ a b la lb e. e))
+      ∙ ap (grow 64 64 (leg t) w) (setOf-low into (λ k l e. leg-low n t most clean i k (lt-of-lt-of-le li most) (and-l (leg t i k) (has w k) e) .1))
     where
-      column : (b : ℕ) → any b (λ k. has (setOf b (λ i. leg t i j)) k && has w k) ≡ any b (λ k. leg t k j && has w k)
-      column b = any-ext b _ _ (λ k l. ap (λ (x : Bool). x && has w k) (has-setOf b (λ i. leg t i j) k l))
+      into : ℕ → Bool
+      into c = leg t i c && has w c
+
+  joins-64 : (w i j : ℕ) → i < n → joins n t w i j ≡ joins 64 t w i j
+  unfolding joins meet col
+  joins-64 w i j li =
+      ap₂ (meet n) (col-64 j) (led-64 w i li)
+      ∙ sym (any-low 64 n (λ k. has (col 64 t j) k && has (ledTo 64 t w i) k) most (λ k l e.
+      let r = setOf-elim 64 (λ i. leg t i j) k (and-l (has (col 64 t j) k) (has (ledTo 64 t w i) k) e) in
+      leg-low n t most clean k j (r .0) (r .1) .0))
 
   stands-64 : (cs : List ℕ) (i j m : ℕ) → i < n → stands n t cs i j m ≡ stands 64 t cs i j m
   unfolding stands
