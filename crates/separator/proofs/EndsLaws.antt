@@ -27,6 +27,11 @@ use Rattle.separator.specs.inner.Spares.{entered, partOf, EndsOf}
 -- ---- the small functions
 
 module _ (t : List ℕ) where
+  -- the union of the rows of w
+  pub entered-is : (w v : ℕ) → v ≡ setOf 64 (λ k. any 64 (λ i. has w i && has (row t i) k)) → v ≡ entered t w
+  unfolding entered leg
+  entered-is w v e = e
+
   -- the stations that have a leg from one of two sets
   pub entered-both : (a b : ℕ) → bitOr (entered t a) (entered t b) ≡ entered t (bitOr a b)
   unfolding entered
@@ -56,8 +61,8 @@ module _ (t : List ℕ) where
       ways : bitAnd (row t i) w ≡ setOf 64 (λ c. has (row t i) c && has w c)
       ways = eq-setOf 64 (bitAnd (row t i) w) _ (omega (arith, and-le-r (row t i) w)) (λ c l. has-and (row t i) w c)
 
--- the mark m, bare or of the component at place m - 1
-module _ (t : List ℕ) (s : ℕ) (cs : List ℕ) where
+-- the component of a mark
+module _ (cs : List ℕ) where
   pub part-bare : (m : ℕ) → m ≡ 0 → 0 ≡ partOf cs m
   part-bare m z = rw z (unfold partOf in refl)
 
@@ -66,6 +71,8 @@ module _ (t : List ℕ) (s : ℕ) (cs : List ℕ) where
   part-at zero p = absurd (omega arith)
   part-at (suc c) p = let place : suc c - 1 ≡ c = omega arith in ap (row cs) place
 
+-- the mark m, bare or of the component at place m - 1
+module _ (t : List ℕ) (s : ℕ) (cs : List ℕ) where
   pub heads-bare : (i m : ℕ) → m ≡ 0 → s < 2 ^ 64 → bitAnd (row t i) s ≡ setOf 64 (λ j. has s j && stands 64 t cs i j m)
   heads-bare i m z h = rw z (unfold stands in unfold leg in (
       eq-setOf 64 (bitAnd (row t i) s) _ (omega (arith, and-le-r (row t i) s)) (λ j l. has-and (row t i) s j ∙ and-comm (has (row t i) j) (has s j))))

@@ -22,6 +22,7 @@ use Rattle.separator.specs.inner.Reach.{Linked, Listed}
 use Rattle.separator.specs.inner.Spares.{SparesOf, Cut}
 use Rattle.separator.proofs.NeighbourLaws.{linked-mutual}
 use Rattle.separator.proofs.PartLaws.{components-most, components-linked}
+use Rattle.separator.proofs.StandLaws.{columns-64}
 use Rattle.separator.proofs.CutLaws.{cut-cols}
 use Rattle.separator.proofs.ExactLaws.{level-none, level-leaves, level-clean}
 use Rattle.separator.proofs.strike.Statement.{statement}
@@ -33,7 +34,7 @@ abbrev start : tie.After-components-of → tie.Start
 start c = c .before .before .before .before
 
 abbrev parts : tie.After-spare-stations → tie.After-components-of
-parts c = c .before .before .before
+parts c = c .before .before .before .before
 
 abbrev passed : tie.Else1 → tie.After-spare-stations
 passed c = c .before
@@ -110,9 +111,10 @@ components-of-requires c κs = search needs
 
 spare-stations-requires : tie.Need-spare-stations-requires
 spare-stations-requires c κs =
-    let f = c .before .before in
+    let f = c .before .before .before in
     let a = start f .args in
-    omega (arith, listed f .many, components-most (a .n) (now (a .rows)) (a .s), start f .pre .2 .most)
+    let p = start f .pre in
+    (omega (arith, listed f .many, components-most (a .n) (now (a .rows)) (a .s), p .2 .most), p .1 .columns ∙ columns-64 (a .n) (now (a .rows)) (p .2 .most) (p .1 .clean))
 
 returns : tie.Need-returns
 returns c =

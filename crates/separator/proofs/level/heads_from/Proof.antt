@@ -1,8 +1,10 @@
 -- `level::heads_from` meets its contract. Assumes nothing.
 use borrow.Author.Needs.{needs}
-use mathlib.Core.Path.{_∙_}
+use mathlib.Core.Path.{sym, subst}
+use Prim.Native.Nat.{ℕ}
 use native.Mathlib.Omega.{arith}
-use Rattle.separator.proofs.EndsLaws.{last-entered, heads-bare, heads-through}
+use Rattle.separator.specs.inner.Spares.{CoreOf}
+use Rattle.separator.proofs.EndsLaws.{part-at, heads-bare, heads-through}
 use Rattle.separator.proofs.level.heads_from.Statement.{statement}
 use Rattle.separator.proofs.level.heads_from.Tie as tie
 
@@ -31,7 +33,7 @@ joined-requires : tie.Need-joined-requires
 joined-requires c κs =
     let s = c .before .before in
     let a = s .args in
-    (s .pre .0, s .pre .2 ∙ last-entered (a .rows .now) (a .s) (a .parts .now) (a .m) (omega arith))
+    (s .pre .0, subst (λ (w : ℕ). CoreOf (a .rows .now) w (a .core)) (sym (part-at (a .parts .now) (a .m) (omega arith))) (s .pre .2))
 
 returns-2 : tie.Need-returns-2
 returns-2 c =

@@ -9,26 +9,26 @@ use Rattle.separator.proofs.level.marks.Statement.{statement}
 use Rattle.separator.proofs.level.marks.Tie as tie
 
 abbrev Inv-loop : tie.InvT-loop
-Inv-loop rows s parts p out₀ into₀ tails₀ heads₀ c₀ out into tails heads c =
+Inv-loop rows cols s parts p out₀ into₀ tails₀ heads₀ c₀ out into tails heads c =
     (c ≤ p) × Side (marked 64 rows s parts) c out tails × Side (λ x y. marked 64 rows s parts y x) c into heads
 
 abbrev μ-loop : tie.MeasureT-loop
-μ-loop rows s parts p out₀ into₀ tails₀ heads₀ c₀ out into tails heads c = p - c
+μ-loop rows cols s parts p out₀ into₀ tails₀ heads₀ c₀ out into tails heads c = p - c
 
 ends-of-requires : tie.Need-ends-of-requires Inv-loop μ-loop
-ends-of-requires c κs = omega arith
+ends-of-requires c κs = (omega arith, c .pre .1)
 
 loop-holds : tie.Need-loop-holds Inv-loop μ-loop
 loop-holds c =
     let s = c .before in
     let e = c .ends-of .ensures in
-    (omega arith, side-start _ _ _ (s .pre .1) (e .tail), side-start _ _ _ (s .pre .2) (e .head))
+    (omega arith, side-start _ _ _ (s .pre .2) (e .tail), side-start _ _ _ (s .pre .3) (e .head))
 
 add-ends-of : tie.Need-add-ends-of Inv-loop μ-loop
 add-ends-of c = omega arith
 
 ends-of-requires-2 : tie.Need-ends-of-requires-2 Inv-loop μ-loop
-ends-of-requires-2 c κs = omega arith
+ends-of-requires-2 c κs = (omega arith, c .before .before .before .pre .1)
 
 mul-out : tie.Need-mul-out Inv-loop μ-loop
 mul-out c = omega arith

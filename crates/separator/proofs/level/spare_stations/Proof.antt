@@ -18,13 +18,13 @@ settle-requires : tie.Need-settle-requires
 settle-requires c κs =
     let s = start (c .before) in
     let a = s .args in
-    (s .pre, side-inside _ (a .s) (λ x y m e. marked-pair 64 (a .rows .now) (a .s) (a .parts .now) x y m e .0) (c .before .marks .ensures .0))
+    (s .pre .0, side-inside _ (a .s) (λ x y m e. marked-pair 64 (a .rows .now) (a .s) (a .parts .now) x y m e .0) (c .before .marks .ensures .0))
 
 settle-requires-2 : tie.Need-settle-requires-2
 settle-requires-2 c κs =
     let s = start (c .before .before .before) in
     let a = s .args in
-    (s .pre, side-inside _ (a .s) (λ x y m e. marked-pair 64 (a .rows .now) (a .s) (a .parts .now) y x m e .1) (c .before .before .before .marks .ensures .1))
+    (s .pre .0, side-inside _ (a .s) (λ x y m e. marked-pair 64 (a .rows .now) (a .s) (a .parts .now) y x m e .1) (c .before .before .before .marks .ensures .1))
 
 returns : tie.Need-returns
 returns c =
