@@ -12,11 +12,11 @@ use Rattle.filter.specs.Sweep.{stuck, nextTaken, prevTaken, swept, sweep}
 use Rattle.filter.specs.Chain.{compulsory, compulsories, forked, nexts, joined, looped, closes, chain}
 use Rattle.separator.specs.Levels.{neighbourhood, levelsFrom, levels, reached, unreached, front, inner}
 use Rattle.separator.specs.Components.{spread, grow, componentsFrom, components}
-use Rattle.separator.specs.Level.{joins, stands, marked, marking, marks, choose, choice, takes, passable, struck, level}
+use Rattle.separator.specs.Level.{ledTo, joins, stands, marked, marking, marks, choose, choice, takes, passable, struck, level}
 use Rattle.filter.specs.Pass.{passOver, pass}
 use Rattle.filter.specs.Rule.{says}
 use Rattle.filter.specs.Calls.{gone, byHand, handCall, after, step, runFrom, runCall}
 
 unfoldable pub definitions : ℕ
-unfolding bit digit any all first count sum has setOf size join minus meet upto leg col tableOf without legs neighbours strayRow stray bad isRound isList checkCall bytes mapOf entryBytes entriesBytes bytesOf entryAt given little readSet readFixed readEntry readEntries readEnd readPage opened openCall entryOf pageOf sheetOf stuck nextTaken prevTaken swept sweep compulsory compulsories forked nexts joined looped closes chain neighbourhood levelsFrom levels reached unreached front inner spread grow componentsFrom components joins stands marked marking marks choose choice takes passable struck level passOver pass says gone byHand handCall after step runFrom runCall
+unfolding bit digit any all first count sum has setOf size join minus meet upto leg col tableOf without legs neighbours strayRow stray bad isRound isList checkCall bytes mapOf entryBytes entriesBytes bytesOf entryAt given little readSet readFixed readEntry readEntries readEnd readPage opened openCall entryOf pageOf sheetOf stuck nextTaken prevTaken swept sweep compulsory compulsories forked nexts joined looped closes chain neighbourhood levelsFrom levels reached unreached front inner spread grow componentsFrom components ledTo joins stands marked marking marks choose choice takes passable struck level passOver pass says gone byHand handCall after step runFrom runCall
 definitions = 0

@@ -1,63 +1,33 @@
 -- The components outside a set are the connected groups: two stations are in the same one exactly when a path of neighbours outside the set joins
 -- them. Assumes nothing.
-use mathlib.Core.Path.{_≡_, sym, _∙_, subst}
+use mathlib.Core.Path.{_≡_, sym}
 use mathlib.Core.Logic.{_↔_, ⊎-elim}
-use mathlib.Core.Bool.{Bool, true, not, _&&_, _||_}
+use mathlib.Core.Bool.{Bool, true, not}
 use mathlib.Core.List.{List, [], _∷_}
 use Prim.Native.Nat.{ℕ, zero, suc, _^_, _<_}
 use native.Mathlib.Nat.{le-of-suc-le-suc, not-suc-le-zero, eq-or-lt-of-le}
 use lib.Dec.{eqb}
 use lib.ListN.{getD, length}
-use borrow.Author.Tests.{eqb-true, not-true}
+use borrow.Author.Tests.{not-true}
 use Rattle.bitset.specs.Sets.{has, first, setOf, minus}
-use Rattle.bitset.proofs.BoolLaws.{not-both, and-l, and-r, or-cases, cond-elim}
-use Rattle.bitset.proofs.QuantLaws.{below?, any-elim}
+use Rattle.bitset.proofs.BoolLaws.{not-both, cond-elim}
+use Rattle.bitset.proofs.QuantLaws.{below?}
 use Rattle.bitset.proofs.FirstLaws.{first-at}
-use Rattle.bitset.proofs.HasLaws.{has-pow}
 use Rattle.bitset.proofs.SetLaws.{setOf-elim, minus-elim, some-member}
 use Rattle.circuit.specs.Legs.{neighbours}
 use Rattle.circuit.proofs.LegsLaws.{neighbours-swap}
-use Rattle.separator.specs.Choice.{Walk, stay, step}
-use Rattle.separator.specs.Components.{spread, grow, componentsFrom, components}
+use Rattle.separator.specs.Choice.{Walk}
+use Rattle.separator.specs.Components.{grow, componentsFrom, components}
 use Rattle.separator.specs.Connected.{Free, Joined, Member, Together, ConnectedGroups}
 use Rattle.separator.proofs.ComponentLaws.{components-closed, components-cover, components-own}
-use Rattle.separator.proofs.NeighbourLaws.{leads}
-use Rattle.separator.proofs.RoundChoice.{walk-start, walk-end}
+use Rattle.separator.proofs.WalkLaws.{walk-start, walk-end, walk-on, walk-keeps, walk-back, grown-from}
 
--- ---- walks, one after the other and back
-
-walk-on : {R : ℕ → ℕ → Bool} {In : ℕ → Type 0} {c d e : ℕ} → Walk R In c d → Walk R In d e → Walk R In c e
-walk-on v (stay k) = v
-walk-on v (step w r k) = step (walk-on v w) r k
-
-walk-back : {R : ℕ → ℕ → Bool} {In : ℕ → Type 0} {c d : ℕ} → ((i j : ℕ) → R i j ≡ true → R j i ≡ true) → Walk R In c d → Walk R In d c
-walk-back swap (stay k) = stay k
-walk-back swap (step {d = d} {e = e} w r k) = walk-on (step (stay k) (swap d e r) (walk-end w)) (walk-back swap w)
-
--- ---- what grows from a station is walked to from it; all of the room is In
+-- ---- each group is walked to from one station; all of the room is In
 
 module _ (n : ℕ) (R : ℕ → ℕ → Bool) (room : ℕ) (In : ℕ → Type 0) (inside : (i : ℕ) → has room i ≡ true → In i) where
   -- each station of w is walked to from k
-  abbrev pub From : ℕ → ℕ → Type 0
+  abbrev From : ℕ → ℕ → Type 0
   From k w = (j : ℕ) → has w j ≡ true → Walk R In k j
-
-  spread-from : (k w : ℕ) → From k w → From k (spread n R room w)
-  unfolding spread
-  spread-from k w f j e =
-      ⊎-elim (f j) next (or-cases (has w j) (has room j && leads n R w j) (setOf-elim n (λ k. has w k || has room k && leads n R w k) j e .1))
-    where
-      next : has room j && leads n R w j ≡ true → Walk R In k j
-      next q =
-          let (i, l, r) = any-elim n (λ i. has w i && R i j) (and-r (has room j) (leads n R w j) q) in
-          step (f i (and-l (has w i) (R i j) r)) (and-r (has w i) (R i j) r) (inside j (and-l (has room j) (leads n R w j) q))
-
-  grow-from : (f k w : ℕ) → From k w → From k (grow f n R room w)
-  unfolding grow
-  grow-from zero k w h = h
-  grow-from (suc f) k w h = grow-from f k (spread n R room w) (spread-from k w h)
-
-  pub grown-from : (k : ℕ) → In k → From k (grow n n R room (2 ^ k))
-  grown-from k h = grow-from n k (2 ^ k) (λ j e. subst (Walk R In k) (sym (eqb-true j k (sym (has-pow k j) ∙ e))) (stay h))
 
   -- each set of the list is walked to from one station
   abbrev Rooted : List ℕ → Type 0
@@ -80,7 +50,7 @@ module _ (n : ℕ) (R : ℕ → ℕ → Bool) (room : ℕ) (In : ℕ → Type 0)
       let more : Rooted l = list-rooted f (minus n rest w) (λ j e. h j (minus-elim n rest w j e .1)) in
       cond-elim Rooted (eqb rest 0) [] (w ∷ l) (λ _. rooted-nil) (λ z.
       let (j, m, e) = some-member n rest (λ j e. h j e .0) z in
-      rooted-cons w k l (grown-from k (inside k (h k (first-at n (has rest) j m e .1) .1))) more)
+      rooted-cons w k l (grown-from n R room In inside k (inside k (h k (first-at n (has rest) j m e .1) .1))) more)
 
 -- ---- the components
 
@@ -100,11 +70,10 @@ module _ (n : ℕ) (t : List ℕ) (s : ℕ) where
       out i e = let f = setOf-elim n (λ k. not (has s k)) i e in (f .0, not-true (has s i) (f .1))
 
   joins : (c i j : ℕ) → Member cs c i → Member cs c j → Joined n t s i j
-  joins c i j (l, p) (_, q) = let (k, f) = root c l in walk-on (walk-back (neighbours-swap t) (f i p)) (f j q)
+  joins c i j (l, p) (_, q) = let (k, f) = root c l in walk-on (walk-back (λ a b _ _. neighbours-swap t a b) (f i p)) (f j q)
 
   keeps : (c i j : ℕ) → Joined n t s i j → Member cs c i → Member cs c j
-  keeps c i j (stay k) m = m
-  keeps c i j (step {d = d} w e k) m = let (l, p) = keeps c i d w m in (l, components-closed n t s c d j (walk-end w .0) (k .0) (k .1) e p)
+  keeps c i j = walk-keeps (Member cs c) (λ a b p q r (l, e). (l, components-closed n t s c a b (p .0) (q .0) (q .1) r e))
 
   covered : (i : ℕ) → Free n s i → (c : ℕ) × Member cs c i
   covered i (l, z) = let (c, m, e) = components-cover n t s i l z in (c, (m, e))

@@ -19,10 +19,12 @@ use Rattle.bitset.proofs.WordLaws.{in-and}
 use Rattle.circuit.specs.Legs.{leg, columns}
 use Rattle.circuit.proofs.LegsLaws.{column-leg}
 use Rattle.separator.specs.declared.level.Core.{Core}
+use Rattle.separator.specs.Choice.{Walk}
 use Rattle.separator.specs.Components.{grow}
 use Rattle.separator.specs.inner.Spares.{entered, CoreOf}
 use Rattle.separator.proofs.ComponentLaws.{grown-closed, grow-keeps}
-use Rattle.separator.proofs.GrowLaws.{grow-each, grow-within, grow-lt, grow-beside}
+use Rattle.separator.proofs.GrowLaws.{grow-within, grow-lt, grow-beside}
+use Rattle.separator.proofs.WalkLaws.{walk-on, walk-back, grown-from, walked-grown}
 
 module _ (t : List ℕ) (w : ℕ) where
   -- what legs inside w lead to from a set, and from a station
@@ -31,9 +33,6 @@ module _ (t : List ℕ) (w : ℕ) where
 
   abbrev from : ℕ → ℕ
   from a = led (2 ^ a)
-
-  from-self : (a : ℕ) → a < 64 → has (from a) a ≡ true
-  from-self a l = grow-keeps 64 (leg t) w 64 (2 ^ a) a l (has-self a)
 
   -- a station that is led to leads no further
   from-on : (start a : ℕ) → has (led start) a ≡ true → Within 64 (from a) (led start)
@@ -51,34 +50,31 @@ module _ (t : List ℕ) (w : ℕ) where
         beyond = sym (none-zero 64 _ (setOf-lt 64 _) (λ j l. has-setOf 64 _ j l ∙ any-none 64 _ (λ d m. ap (λ (b : Bool). b && leg t d j) (has-zero d))));
       }
 
-  -- x leads to `ahead`, and by the columns `back` leads to x
-  pub core-from : (x : ℕ) (core : Core) → x < 64 → has w x ≡ true → core .ahead ≡ from x → core .back ≡ grow 64 64 (leg (columns 64 t)) w (2 ^ x)
-      → core .beyond ≡ entered t (core .ahead) → CoreOf t w core
-  core-from x core lx hx out home beyond =
-      record {
-        fits = subst (λ (v : ℕ). v < 2 ^ 64) (sym out) small;
-        closed = subst (λ (v : ℕ). (a b : ℕ) → a < 64 → b < 64 → leg t a b ≡ true → has w b ≡ true → has v a ≡ true → has v b ≡ true) (sym out) (grown-closed 64 (leg t) w (2 ^ x));
-        leads = λ a b ha hb.
-            let hb′ = ap (λ (v : ℕ). has v b) (sym out) ∙ hb in
-            let ha′ = ap (λ (v : ℕ). has v a) (sym home) ∙ ha in
-            let la = member-below 64 _ a (grow-lt 64 (leg (columns 64 t)) w 64 (2 ^ x) (pow-lt lx)) ha′ in
-            from-on (2 ^ a) x (leads-home a la ha′ .1) b (member-below 64 (from x) b small hb′) hb′;
-        beyond = beyond;
-      }
-    where
-      small : from x < 2 ^ 64
-      small = grow-lt 64 (leg t) w 64 (2 ^ x) (pow-lt lx)
+  abbrev In : ℕ → Type 0
+  In i = (i < 64) × (has w i ≡ true)
 
-      -- a is a station of w that leads to x
-      Home : ℕ → Type 0
-      Home a = (has w a ≡ true) × (has (from a) x ≡ true)
+  -- a station x leads to `ahead`, and along the columns to `back`
+  module _ (x : ℕ) (fits : w < 2 ^ 64) (hx : has w x ≡ true) where
+    inside : (i : ℕ) → has w i ≡ true → In i
+    inside i e = (member-below 64 w i fits e, e)
 
-      earlier : (p q : ℕ) → p < 64 → q < 64 → leg (columns 64 t) p q ≡ true → has w q ≡ true → Home p → Home q
-      earlier p q lp lq e hq (hp, r) =
-          (hq, from-on (2 ^ q) p (grown-closed 64 (leg t) w (2 ^ q) q p lq lp (sym (column-leg 64 t (omega arith) q p lq lp) ∙ e) hp (from-self q lq)) x lx r)
+    home : (a : ℕ) → has (grow 64 64 (leg (columns 64 t)) w (2 ^ x)) a ≡ true → Walk (leg t) In a x
+    home a e =
+        walk-back (λ i j (li, _) (lj, _) r. sym (column-leg 64 t (omega arith) j i lj li) ∙ r)
+        (grown-from 64 (leg (columns 64 t)) w In inside x (inside x hx) a e)
 
-      leads-home : (a : ℕ) → a < 64 → has (grow 64 64 (leg (columns 64 t)) w (2 ^ x)) a ≡ true → Home a
-      leads-home = grow-each 64 (leg (columns 64 t)) w Home earlier 64 (2 ^ x) (λ a la e. subst Home (sym (has-one x a e)) (hx, from-self x lx))
+    out : (b : ℕ) → has (from x) b ≡ true → Walk (leg t) In x b
+    out = grown-from 64 (leg t) w In inside x (inside x hx)
+
+    pub core-from : (core : Core) → core .ahead ≡ from x → core .back ≡ grow 64 64 (leg (columns 64 t)) w (2 ^ x) → core .beyond ≡ entered t (core .ahead) → CoreOf t w core
+    core-from core ahead back beyond =
+        record {
+          fits = rw ahead (grow-lt 64 (leg t) w 64 (2 ^ x) (pow-lt (inside x hx .0)));
+          closed = rw ahead (grown-closed 64 (leg t) w (2 ^ x));
+          leads = λ a b ha hb. walked-grown 64 (leg t) w In (λ i p. p) (2 ^ a) a b (has-self a)
+              (walk-on (home a (ap (λ (v : ℕ). has v a) (sym back) ∙ ha)) (out b (ap (λ (v : ℕ). has v b) (sym ahead) ∙ hb)));
+          beyond = beyond;
+        }
 
   -- ---- what it is good for: a start that meets `back` leads to `ahead`, and to what is led to beside that
   pub core-led : (core : Core) (start : ℕ) → CoreOf t w core → start < 2 ^ 64 → 0 < bitAnd start (core .back)

@@ -12,7 +12,7 @@ use Rattle.bitset.specs.inner.Members.{Within}
 use Rattle.bitset.proofs.BoolLaws.{iff, not-both, cases, and-intro, and-l, and-r, or-l, or-r, or-cases}
 use Rattle.bitset.proofs.QuantLaws.{any-intro, any-elim}
 use Rattle.bitset.proofs.HasLaws.{has-zero, has-or, member-below, ext}
-use Rattle.bitset.proofs.SetLaws.{setOf-lt, has-setOf, has-diff}
+use Rattle.bitset.proofs.SetLaws.{setOf-lt, setOf-elim, has-diff}
 use Rattle.bitset.proofs.MachineLaws.{wide}
 use Rattle.separator.specs.Components.{spread, grow}
 use Rattle.separator.proofs.ComponentLaws.{Closed, grown-closed, grow-keeps}
@@ -26,27 +26,28 @@ module _ (n : ℕ) (R : ℕ → ℕ → Bool) (room : ℕ) where
 
   -- ---- the least closed set that holds its start
 
-  -- what holds of the start, and goes on along R inside the room, holds of all that is grown
-  module _ (P : ℕ → Type 0) (on : (i j : ℕ) → i < n → j < n → R i j ≡ true → has room j ≡ true → P i → P j) where
-    abbrev Each : ℕ → Type 0
-    Each w = (k : ℕ) → k < n → has w k ≡ true → P k
+  -- what holds at the start, and is handed on along R into the room, holds at all that is grown
+  module _ (P : ℕ → Type 0) (on : (a b : ℕ) → a < n → b < n → R a b ≡ true → has room b ≡ true → P a → P b) where
+    abbrev At : ℕ → Type 0
+    At v = (j : ℕ) → has v j ≡ true → P j
 
-    spread-each : (w : ℕ) → Each w → Each (spread n R room w)
+    spread-all : (v : ℕ) → At v → At (spread n R room v)
     unfolding spread
-    spread-each w s j l e =
-        ⊎-elim (s j l) (λ q.
-        let (i, li, hi, r) = leads-elim w j (and-r (has room j) (leads n R w j) q) in
-        on i j li l r (and-l (has room j) (leads n R w j) q) (s i li hi))
-        (or-cases (has w j) (has room j && leads n R w j) (sym (has-setOf n (λ k. has w k || has room k && leads n R w k) j l) ∙ e))
+    spread-all v s j e =
+        let (l, f) = setOf-elim n (λ k. has v k || has room k && leads n R v k) j e in
+        ⊎-elim (s j) (λ q.
+        let (i, li, hi, r) = leads-elim v j (and-r (has room j) (leads n R v j) q) in
+        on i j li l r (and-l (has room j) (leads n R v j) q) (s i hi))
+        (or-cases (has v j) (has room j && leads n R v j) f)
 
-    pub grow-each : (f w : ℕ) → Each w → Each (grow f n R room w)
+    pub grow-all : (f v : ℕ) → At v → At (grow f n R room v)
     unfolding grow
-    grow-each zero w s = s
-    grow-each (suc f) w s = grow-each f (spread n R room w) (spread-each w s)
+    grow-all zero v s = s
+    grow-all (suc f) v s = grow-all f (spread n R room v) (spread-all v s)
 
   -- so it is within each closed set that holds the start
   pub grow-within : (f v w : ℕ) → Closed n R room w → Within n v w → Within n (grow f n R room v) w
-  grow-within f v w c s = grow-each (λ k. has w k ≡ true) c f v s
+  grow-within f v w c s k l e = grow-all (λ k. k < n → has w k ≡ true) (λ a b la lb r d h _. c a b la lb r d (h la)) f v (λ j e l. s j l e) k e l
 
   pub grow-lt : (f w : ℕ) → w < 2 ^ n → grow f n R room w < 2 ^ n
   unfolding grow spread

@@ -25,11 +25,9 @@ use Rattle.separator.specs.Choice.{stay, step}
 use Rattle.separator.specs.Components.{grow}
 use Rattle.separator.specs.Connected.{Free, Joined}
 use Rattle.separator.specs.Levels.{neighbourhood, levelsFrom, levels, reached, unreached}
-use Rattle.separator.proofs.ComponentLaws.{grown-closed, grow-keeps}
-use Rattle.separator.proofs.ConnectedLaws.{grown-from}
 use Rattle.separator.proofs.GrowLaws.{Growing, growing-start, growing-turn, growing-end}
 use Rattle.separator.proofs.NeighbourLaws.{leads, neighbourhood-lt}
-use Rattle.separator.proofs.RoundChoice.{walk-end}
+use Rattle.separator.proofs.WalkLaws.{grown-from, walked-grown}
 
 -- ---- one level after the other
 
@@ -156,18 +154,18 @@ module _ (n : ℕ) (t : List ℕ) (seed : ℕ) (low : seed < n) where
 
   -- ---- paths of neighbours
 
-  walked : (k : ℕ) → Joined n t 0 seed k → has grown k ≡ true
-  walked k (stay f) = grow-keeps n (neighbours t) (allStations n) n (2 ^ seed) seed low (has-self seed)
-  walked k (step {d = d} w e f) =
-      grown-closed n (neighbours t) (allStations n) (2 ^ seed) d k (walk-end w .0) (f .0) e
-      (has-setOf n (λ _. true) k (f .0)) (walked d w)
-
   -- A station is in some level exactly where a path of neighbours joins the seed to it; with nothing to stay outside of, any path will do.
   pub reached-joined : (k : ℕ) → (reached (levels n t seed) k ≡ true) ↔ Joined n t 0 seed k
-  reached-joined k = (λ e. grown-from n (neighbours t) (allStations n) (Free n 0) inside seed (low, has-zero seed) k (sym (levels-reached k) ∙ e), λ w. levels-reached k ∙ walked k w)
+  reached-joined k = (
+    λ e. grown-from n (neighbours t) (allStations n) (Free n 0) inside seed (low, has-zero seed) k (sym (levels-reached k) ∙ e),
+    λ w. levels-reached k ∙ walked-grown n (neighbours t) (allStations n) (Free n 0) only (2 ^ seed) seed k (has-self seed) w,
+  )
     where
       inside : (i : ℕ) → has (allStations n) i ≡ true → Free n 0 i
       inside i e = (setOf-elim n (λ _. true) i e .0, has-zero i)
+
+      only : (i : ℕ) → Free n 0 i → (i < n) × (has (allStations n) i ≡ true)
+      only i (l, _) = (l, has-setOf n (λ _. true) i l)
 
   -- where no station is unreached, every station is in some level
   pub all-reached : unreached n (levels n t seed) ≡ 0 → (k : ℕ) → k < n → reached (levels n t seed) k ≡ true

@@ -44,7 +44,7 @@ returns-2 c =
     let t = a .rows .now in
     let x : ℕ = trailingZeros 64 (a .part) in
     let first = shl-one 64 x (lowest e .below) in
-    core-from t (a .part) x _ (lowest e .below) (lowest e .member)
+    core-from t (a .part) x (e .before .fits .part .fits) (lowest e .member) _
     (c .before .before .grown .ensures ∙ ap (grow 64 64 (leg t) (a .part)) first)
     (c .before .grown2 .ensures ∙ ap₂ (λ (u : List ℕ) (v : ℕ). grow 64 64 (leg u) (a .part) v) (e .before .pre) first)
     (entered-is t _ _ (c .union-of-rows .ensures))
