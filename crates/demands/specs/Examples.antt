@@ -1,4 +1,5 @@
--- Rounds from the depot wall: the items with ◆ as one list, with the step counts of W-201, and beside them what W-201, W-202 and W-204 were asked for.
+-- Rounds from the depot wall: the items with ◆ as one list, with the step counts of W-201, and beside them what W-201, W-202 and W-204 were asked for. The valleys
+-- of W-205 are a second list.
 use mathlib.Core.Bool.{Bool, true, false, _&&_, _||_, Bool·beq}
 use mathlib.Core.List.{List, [], _∷_}
 use Prim.Native.Nat.{ℕ, suc}
@@ -158,4 +159,32 @@ examples =
     ∷ writes (sheet nineLegs 64) nineLegs
     ∷ writes bothOfTwo (2 ∷ 0 ∷ 0 ∷ [])
     ∷ writes oneEmptied (3 ∷ 4 ∷ 2 ∷ 0 ∷ 1 ∷ 0 ∷ 0 ∷ 0 ∷ 0 ∷ 0 ∷ 0 ∷ 0 ∷ 0 ∷ [])
+    ∷ []
+
+-- ---- W-205: valleys driven the wrong way
+
+-- the valley of stations 5 and 6, with 1→5, 6→2 and 6→5 but no 5→6; one round stands, 1→4→3→2→6→5→1
+unfoldable pub valley : Start
+valley = table 6 (leg 1 4 ∷ leg 1 5 ∷ leg 2 6 ∷ leg 3 1 ∷ leg 3 2 ∷ leg 4 2 ∷ leg 4 3 ∷ leg 5 1 ∷ leg 6 2 ∷ leg 6 5 ∷ [])
+
+-- the same valley with no leg into 6
+unfoldable pub deadEnd : Start
+deadEnd = table 6 (leg 1 5 ∷ leg 2 4 ∷ leg 3 2 ∷ leg 4 1 ∷ leg 4 3 ∷ leg 6 2 ∷ leg 6 5 ∷ [])
+
+-- a way from 2 into the valley of 4 and 5, and a way out of it to 3, but no 4→5
+unfoldable pub wrongWay : Start
+wrongWay = table 5 (leg 1 2 ∷ leg 2 4 ∷ leg 3 1 ∷ leg 5 3 ∷ leg 5 4 ∷ [])
+
+-- the component of 1 and 5 is entered and left at 5 on the way from 6 to 3, and at 1 from 3 to 2; one round stands, 1→2→4→6→5→3→1
+unfoldable pub sameStation : Start
+sameStation = table 6 (leg 1 2 ∷ leg 1 5 ∷ leg 2 4 ∷ leg 3 1 ∷ leg 4 3 ∷ leg 4 6 ∷ leg 5 3 ∷ leg 6 5 ∷ [])
+
+-- With the mark of document 01, which asks for no way through the component, the pass removes nothing from the valley; at the dead end it removes 3→2 and does not
+-- give none; and on the wrong way it says nothing. Where a component is entered and left at the same station, its mark stands.
+unfoldable pub valleys : List Example
+valleys =
+    passes valley 4 (leg 3 1 ∷ []) false
+    ∷ passes deadEnd 4 [] true
+    ∷ passes wrongWay 1 [] true
+    ∷ passes sameStation 4 [] false
     ∷ []
