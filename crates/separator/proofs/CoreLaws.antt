@@ -1,6 +1,6 @@
 -- The core of a component, how it is found, and what a way into the component leads to by it. Assumes nothing.
-use mathlib.Core.Path.{_≡_, refl, sym, ap, _∙_, subst}
-use mathlib.Core.Bool.{Bool, true, _&&_}
+use mathlib.Core.Path.{_≡_, sym, ap, _∙_}
+use mathlib.Core.Bool.{true}
 use mathlib.Core.List.{List}
 use Prim.Native.Nat.{ℕ, _-_, _^_, _<_}
 use native.Mathlib.Omega.{arith}
@@ -10,10 +10,9 @@ use lib.Pow.{pow-lt}
 use Rattle.bitset.specs.Sets.{has}
 use Rattle.bitset.specs.inner.Members.{Within}
 use Rattle.bitset.proofs.BoolLaws.{not-both}
-use Rattle.bitset.proofs.QuantLaws.{any-none}
 use Rattle.bitset.proofs.HasLaws.{has-zero, member-below}
 use Rattle.bitset.proofs.LeastLaws.{trailing-least}
-use Rattle.bitset.proofs.SetLaws.{setOf-lt, has-setOf, none-zero, has-self, has-one}
+use Rattle.bitset.proofs.SetLaws.{has-self}
 use Rattle.bitset.proofs.OnesLaws.{pow-within}
 use Rattle.bitset.proofs.WordLaws.{in-and}
 use Rattle.circuit.specs.Legs.{leg, columns}
@@ -21,9 +20,11 @@ use Rattle.circuit.proofs.LegsLaws.{column-leg}
 use Rattle.separator.specs.declared.level.Core.{Core}
 use Rattle.separator.specs.Choice.{Walk}
 use Rattle.separator.specs.Components.{grow}
-use Rattle.separator.specs.inner.Spares.{entered, CoreOf}
+use Rattle.separator.specs.inner.Reach.{entered}
+use Rattle.separator.specs.inner.Spares.{CoreOf}
 use Rattle.separator.proofs.ComponentLaws.{grown-closed, grow-keeps}
 use Rattle.separator.proofs.GrowLaws.{grow-within, grow-lt, grow-beside}
+use Rattle.separator.proofs.LedLaws.{entered-none}
 use Rattle.separator.proofs.WalkLaws.{walk-on, walk-back, grown-from, walked-grown}
 
 module _ (t : List ℕ) (w : ℕ) where
@@ -41,13 +42,12 @@ module _ (t : List ℕ) (w : ℕ) where
   -- ---- how it is found
 
   pub core-none : CoreOf t w (record { ahead = 0; back = 0; beyond = 0 })
-  unfolding entered
   core-none =
       record {
         fits = omega arith;
         closed = λ a b la lb r d e. absurd (not-both e (has-zero a));
         leads = λ a b e f. absurd (not-both e (has-zero a));
-        beyond = sym (none-zero 64 _ (setOf-lt 64 _) (λ j l. has-setOf 64 _ j l ∙ any-none 64 _ (λ d m. ap (λ (b : Bool). b && leg t d j) (has-zero d))));
+        beyond = sym (entered-none t);
       }
 
   abbrev In : ℕ → Type 0

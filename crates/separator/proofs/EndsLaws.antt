@@ -1,7 +1,7 @@
 -- The ends of the pairs on which a mark stands, as the code finds them: the heads of one station, and a walk over the stations of a level.
 -- Assumes nothing.
 use mathlib.Core.Path.{_≡_, refl, sym, ap, ap₂, _∙_}
-use mathlib.Core.Bool.{Bool, true, false, not, _&&_, _||_, and-comm, and-false, or-assoc, or-false}
+use mathlib.Core.Bool.{Bool, true, false, not, _&&_, _||_, and-comm, or-assoc, or-false}
 use mathlib.Core.List.{List}
 use Prim.Native.Nat.{ℕ, zero, suc, _-_, _*_, _%_, _^_, _<_}
 use native.Mathlib.Omega.{arith}
@@ -12,9 +12,9 @@ use borrow.Author.Tests.{eqb-true, ltb-true, lt-ltb}
 use Rattle.bitset.specs.Sets.{has, setOf, any, meet}
 use Rattle.bitset.proofs.BoolLaws.{iff, eqb-swap, and-intro, and-l, and-r, taut3}
 use Rattle.bitset.proofs.HasLaws.{has-zero, has-and, has-or}
-use Rattle.bitset.proofs.SetLaws.{setOf-lt, has-setOf, eq-setOf, word-lt, word-has}
+use Rattle.bitset.proofs.SetLaws.{has-setOf, eq-setOf, word-lt, word-has}
 use Rattle.bitset.proofs.OnesLaws.{has-pos}
-use Rattle.bitset.proofs.QuantLaws.{any-intro, any-elim, any-ext, any-or}
+use Rattle.bitset.proofs.QuantLaws.{any-intro, any-elim, any-ext}
 use Rattle.bitset.proofs.LeastLaws.{trailing-least, has-clear}
 use Rattle.bitset.proofs.MemberLaws.{any-least, any-empty}
 use Rattle.bitset.proofs.MachineLaws.{shl-one, has-remove}
@@ -22,27 +22,12 @@ use Rattle.bitset.specs.Upto.{row}
 use Rattle.circuit.specs.Legs.{leg, col}
 use Rattle.separator.specs.Components.{grow}
 use Rattle.separator.specs.Level.{ledTo, joins, stands, marked}
-use Rattle.separator.specs.inner.Spares.{entered, partOf, EndsOf}
+use Rattle.separator.specs.inner.Reach.{entered}
+use Rattle.separator.specs.inner.Spares.{partOf, EndsOf}
 
 -- ---- the small functions
 
 module _ (t : List ℕ) where
-  -- the union of the rows of w
-  pub entered-is : (w v : ℕ) → v ≡ setOf 64 (λ k. any 64 (λ i. has w i && has (row t i) k)) → v ≡ entered t w
-  unfolding entered leg
-  entered-is w v e = e
-
-  -- the stations that have a leg from one of two sets
-  pub entered-both : (a b : ℕ) → bitOr (entered t a) (entered t b) ≡ entered t (bitOr a b)
-  unfolding entered
-  entered-both a b =
-      eq-setOf 64 (bitOr (entered t a) (entered t b)) _ (or-lt 64 (entered t a) (entered t b) (setOf-lt 64 _) (setOf-lt 64 _)) (λ j l.
-      has-or (entered t a) (entered t b) j
-      ∙ ap₂ (λ (x y : Bool). x || y) (has-setOf 64 (λ j. any 64 (λ d. has a d && leg t d j)) j l) (has-setOf 64 (λ j. any 64 (λ d. has b d && leg t d j)) j l)
-      ∙ sym (any-or 64 (λ d. has a d && leg t d j) (λ d. has b d && leg t d j))
-      ∙ any-ext 64 _ _ (λ d ld.
-      taut3 (λ x y z. x && z || y && z) (λ x y z. (x || y) && z) refl (has a d) (has b d) (leg t d j) ∙ ap (λ (x : Bool). x && leg t d j) (sym (has-or a b d))))
-
   -- the stations of s that the component w joins i to are those that have a leg from where the ways in lead
   pub joined-is : (s w i v : ℕ) → s < 2 ^ 64 → w < 2 ^ 64 → v ≡ entered t (grow 64 64 (leg t) w (bitAnd (row t i) w))
       → bitAnd v s ≡ setOf 64 (λ j. has s j && joins 64 t w i j)

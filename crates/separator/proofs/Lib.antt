@@ -13,6 +13,7 @@ pub mod LevelLaws
 pub mod NeighbourLaws
 pub mod GrowLaws
 pub mod RoomLaws
+pub mod LedLaws
 pub mod ArrayLaws
 pub mod ReachLaws
 pub mod PartingLaws

@@ -17,7 +17,7 @@ use Rattle.separator.proofs.GrowLaws.{Growing, growing-start, growing-t
 
 module _ (R : ℕ → ℕ → Bool) (room start : ℕ) where
   -- what is grown so far
-  abbrev seen : ℕ → ℕ
+  abbrev pub seen : ℕ → ℕ
   seen left = bitOr start (bitAnd room ((2 ^ 64 - 1) - left))
 
   seen-has : (left k : ℕ) → left < 2 ^ 64 → k < 64 → has (seen left) k ≡ has start k || has room k && not (has left k)
@@ -32,32 +32,33 @@ module _ (R : ℕ → ℕ → Bool) (room start : ℕ) where
     seen-lt : (left : ℕ) → seen left < 2 ^ 64
     seen-lt left = or-lt 64 start (bitAnd room ((2 ^ 64 - 1) - left)) hs (omega (arith, and-le-l room ((2 ^ 64 - 1) - left)))
 
-    pub leaving-start : Leaving (bitAnd room ((2 ^ 64 - 1) - start)) start
+    -- at first what is left of the room is all but the start
+    abbrev unseen : ℕ
+    unseen = bitAnd room ((2 ^ 64 - 1) - start)
+
+    unseen-fits : unseen < 2 ^ 64
+    unseen-fits = omega (arith, and-le-l room ((2 ^ 64 - 1) - start))
+
+    pub seen-start : seen unseen ≡ start
+    seen-start =
+        ext 64 (seen unseen) start (seen-lt unseen) hs (λ k l.
+        seen-has unseen k unseen-fits l ∙ ap (λ (b : Bool). has start k || has room k && not b) (has-diff 64 room start k hs l)
+        ∙ taut2 (λ a r. a || r && not (r && not a)) (λ a r. a) refl (has start k) (has room k))
+
+    pub leaving-start : Leaving unseen start
     leaving-start =
         record {
-          fits = fits;
-          inside = λ k l. has-diff 64 room start k hs l ∙ ap (λ (w : ℕ). has room k && not (has w k)) (sym none);
-          growing = subst (λ (w : ℕ). Growing 64 R room start w start) (sym none) (growing-start 64 R room start hs);
+          fits = unseen-fits;
+          inside = λ k l. has-diff 64 room start k hs l ∙ ap (λ (w : ℕ). has room k && not (has w k)) (sym seen-start);
+          growing = subst (λ (w : ℕ). Growing 64 R room start w start) (sym seen-start) (growing-start 64 R room start hs);
         }
-      where
-        left : ℕ
-        left = bitAnd room ((2 ^ 64 - 1) - start)
-
-        fits : left < 2 ^ 64
-        fits = omega (arith, and-le-l room ((2 ^ 64 - 1) - start))
-
-        none : seen left ≡ start
-        none =
-            ext 64 (seen left) start (seen-lt left) hs (λ k l.
-            seen-has left k fits l ∙ ap (λ (b : Bool). has start k || has room k && not b) (has-diff 64 room start k hs l)
-            ∙ taut2 (λ a r. a || r && not (r && not a)) (λ a r. a) refl (has start k) (has room k))
 
     module _ {left last near : ℕ} (g : Leaving left last) (e : near ≡ setOf 64 (leads 64 R last)) where
       -- what comes in next
       abbrev next : ℕ
       next = bitAnd near left
 
-      next-lt : next < 2 ^ 64
+      pub next-lt : next < 2 ^ 64
       next-lt = omega (arith, and-le-l near left, word-lt 64 (leads 64 R last) e)
 
       next-has : (k : ℕ) → k < 64 → has next k ≡ leads 64 R last k && has room k && not (has (seen left) k)
@@ -78,8 +79,8 @@ module _ (R : ℕ → ℕ → Bool) (room start : ℕ) where
       rest-has : (k : ℕ) → k < 64 → has rest k ≡ has left k && not (has next k)
       rest-has k l = has-diff 64 left next k next-lt l
 
-      seen-next : seen rest ≡ bitOr (seen left) next
-      seen-next =
+      pub seen-turn : seen rest ≡ bitOr (seen left) next
+      seen-turn =
           ext 64 (seen rest) (bitOr (seen left) next) (seen-lt rest) (or-lt 64 (seen left) next (seen-lt left) next-lt) (λ k l.
           seen-has rest k rest-fits l ∙ ap (λ (b : Bool). has start k || has room k && not b) (rest-has k l ∙ ap (λ (b : Bool). has left k && not b) (has-and near left k))
           ∙ bits (has start k) (has room k) (has left k) (has near k) (λ q. and-l (has room k) (not (has (seen left) k)) (sym (g .inside k l) ∙ q))
@@ -100,8 +101,8 @@ module _ (R : ℕ → ℕ → Bool) (room start : ℕ) where
             inside = λ k l.
                 rest-has k l ∙ ap (λ (b : Bool). b && not (has next k)) (g .inside k l)
                 ∙ taut3 (λ a b c. a && not b && not c) (λ a b c. a && not (b || c)) refl (has room k) (has (seen left) k) (has next k)
-                ∙ ap (λ (b : Bool). has room k && not b) (sym (ap (λ (w : ℕ). has w k) seen-next ∙ has-or (seen left) next k));
-            growing = subst (λ (w : ℕ). Growing 64 R room start w next) (sym seen-next) grows;
+                ∙ ap (λ (b : Bool). has room k && not b) (sym (ap (λ (w : ℕ). has w k) seen-turn ∙ has-or (seen left) next k));
+            growing = subst (λ (w : ℕ). Growing 64 R room start w next) (sym seen-turn) grows;
           }
 
       pub leaving-less : 0 < next → ones (bitAnd left ((2 ^ 64 - 1) - next)) < ones left

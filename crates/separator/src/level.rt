@@ -5,14 +5,15 @@ ghost use mathlib.Core.Bool.{true, false, _&&_};
 ghost use Prim.Native.Nat.{ℕ, _^_, _<_, _≤_};
 ghost use lib.ListN.{length};
 ghost use Rattle.bitset.specs.Sets.{has, setOf};
-ghost use Rattle.circuit.specs.Legs.{leg, columns};
+ghost use Rattle.circuit.specs.Legs.{columns};
 ghost use Rattle.circuit.specs.State.{stray};
 ghost use Rattle.matching.specs.Matching.{Inside};
-ghost use Rattle.separator.specs.Components.{grow, components};
+ghost use Rattle.separator.specs.Components.{components};
 ghost use Rattle.separator.specs.Level.{joins, stands, marked};
 ghost use Rattle.separator.specs.inner.Reach.{Listed};
-ghost use Rattle.separator.specs.inner.Spares.{entered, partOf, CoreOf, EndsOf, Side, Settled, SparesOf, cutRow, Cut};
+ghost use Rattle.separator.specs.inner.Spares.{partOf, CoreOf, EndsOf, Side, Settled, SparesOf, cutRow, Cut};
 use crate::reach::grown;
+use crate::reach::led_from;
 
 // What one level allows: none, or the stations that some out-choice and some in-choice leave free for a bare leg.
 pub(crate) struct Spares {
@@ -59,19 +60,12 @@ fn core_of(rows: &[u64; 64], cols: &[u64; 64], part: u64) -> Core
         };
     }
     let first = 1u64 << u64::trailing_zeros(part);
-    let ahead = grown(rows, part, first);
+    let led = led_from(rows, part, first);
     Core {
-        ahead,
+        ahead: led.all,
         back: grown(cols, part, first),
-        beyond: bitset::union_of_rows(rows, ahead),
+        beyond: led.beyond,
     }
-}
-
-// The stations that have a leg from where `start` leads to inside `room`.
-fn entered_from(rows: &[u64; 64], room: u64, start: u64) -> u64
-    ensures { λ r. ⌜ r ≡ entered (now (rows .entry)) (grow 64 64 (leg (now (rows .entry))) room start) ⌝ }
-{
-    bitset::union_of_rows(rows, grown(rows, room, start))
 }
 
 // The stations of s that the component joins i to. A way in that meets the core's back leads to all that is ahead, so only what lies beside that is walked.
@@ -81,9 +75,9 @@ fn joined(rows: &[u64; 64], s: u64, part: u64, core: Core, i: usize) -> u64
 {
     let into = rows[i] & part;
     if into & core.back == 0 {
-        return entered_from(rows, part, into) & s;
+        return led_from(rows, part, into).beyond & s;
     }
-    (core.beyond | entered_from(rows, part & !core.ahead, into & !core.ahead)) & s
+    (core.beyond | led_from(rows, part & !core.ahead, into & !core.ahead).beyond) & s
 }
 
 // The stations j of s for which the mark m stands from i to j.

@@ -10,13 +10,19 @@ ghost use Rattle.circuit.specs.Legs.{leg, columns, neighbours, tableOf};
 ghost use Rattle.circuit.specs.inner.Tables.{Square};
 ghost use Rattle.separator.specs.Levels.{neighbourhood};
 ghost use Rattle.separator.specs.Components.{grow, componentsFrom};
-ghost use Rattle.separator.specs.inner.Reach.{Linked, Mutual, Listed, LevelsOf};
+ghost use Rattle.separator.specs.inner.Reach.{Linked, Mutual, Listed, LevelsOf, LedFrom};
 
 // Level k stands at `level[k]`, for k below `count`; the other words are 0. The stations in no level are in `unreached`.
 pub struct Levels {
     pub level: [u64; 64],
     pub count: usize,
     pub unreached: u64,
+}
+
+// The stations that a set leads to, and those that one of them has a leg to.
+pub(crate) struct Led {
+    pub(crate) all: u64,
+    pub(crate) beyond: u64,
 }
 
 // Gathers the neighbours: into the word of each station those with a leg to or from it. Words beyond n are 0.
@@ -77,6 +83,25 @@ pub(crate) fn grown(words: &[u64; 64], room: u64, start: u64) -> u64
         left &= !last;
     }
     start | (room & !left)
+}
+
+// What `start` leads to inside `room` along the words of its stations, and the members of the words of all these. Each word is read once.
+pub(crate) fn led_from(words: &[u64; 64], room: u64, start: u64) -> Led
+    ensures { λ r. ⌜ LedFrom (now (words .entry)) room start r ⌝ }
+{
+    let mut left = room & !start;
+    let mut last = start;
+    let mut beyond = 0u64;
+    while last != 0 {
+        let near = bitset::union_of_rows(words, last);
+        beyond |= near;
+        last = near & left;
+        left &= !last;
+    }
+    Led {
+        all: start | (room & !left),
+        beyond,
+    }
 }
 
 // The connected groups of the stations of `outside`, by the words of their neighbours. They come first in `part`, by rising lowest station, and the other words

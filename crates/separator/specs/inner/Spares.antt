@@ -13,12 +13,9 @@ use Rattle.separator.specs.declared.level.Core.{Core}
 use Rattle.separator.specs.declared.level.Spares.{Spares}
 use Rattle.separator.specs.Components.{grow}
 use Rattle.separator.specs.Level.{marking, passable, struck}
+use Rattle.separator.specs.inner.Reach.{entered}
 
 -- ---- marks
-
--- the stations that have a leg from a station of w
-unfoldable pub entered : List ℕ → ℕ → ℕ
-entered t w = setOf 64 (λ j. any 64 (λ d. has w d && leg t d j))
 
 -- the component of the mark m; bare has none
 unfoldable pub partOf : List ℕ → ℕ → ℕ

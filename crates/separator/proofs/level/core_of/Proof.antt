@@ -10,7 +10,6 @@ use Rattle.bitset.proofs.LeastLaws.{trailing-least}
 use Rattle.bitset.proofs.MachineLaws.{shl-one}
 use Rattle.circuit.specs.Legs.{leg}
 use Rattle.separator.specs.Components.{grow}
-use Rattle.separator.proofs.EndsLaws.{entered-is}
 use Rattle.separator.proofs.CoreLaws.{core-none, core-from}
 use Rattle.separator.proofs.level.core_of.Statement.{statement}
 use Rattle.separator.proofs.level.core_of.Tie as tie
@@ -28,26 +27,24 @@ cast-first c = omega (arith, lowest c .below)
 shl-first : tie.Need-shl-first
 shl-first c = lowest c .below
 
+led-from-requires : tie.Need-led-from-requires
+led-from-requires c κs = search needs
+
 grown-requires : tie.Need-grown-requires
 grown-requires c κs = search needs
 
-grown-requires-2 : tie.Need-grown-requires-2
-grown-requires-2 c κs = search needs
-
-union-of-rows-requires : tie.Need-union-of-rows-requires
-union-of-rows-requires c κs = search needs
-
 returns-2 : tie.Need-returns-2
 returns-2 c =
-    let e = c .before .before .before in
+    let e = c .before .before in
     let a = e .before .args in
     let t = a .rows .now in
     let x : ℕ = trailingZeros 64 (a .part) in
     let first = shl-one 64 x (lowest e .below) in
+    let led = c .before .led-from .ensures in
     core-from t (a .part) x (e .before .fits .part .fits) (lowest e .member) _
-    (c .before .before .grown .ensures ∙ ap (grow 64 64 (leg t) (a .part)) first)
-    (c .before .grown2 .ensures ∙ ap₂ (λ (u : List ℕ) (v : ℕ). grow 64 64 (leg u) (a .part) v) (e .before .pre) first)
-    (entered-is t _ _ (c .union-of-rows .ensures))
+    (led .all ∙ ap (grow 64 64 (leg t) (a .part)) first)
+    (c .grown .ensures ∙ ap₂ (λ (u : List ℕ) (v : ℕ). grow 64 64 (leg u) (a .part) v) (e .before .pre) first)
+    (led .beyond)
 
 pub core-of-spec : {M : Type 1} → statement M
 core-of-spec =
@@ -56,7 +53,6 @@ core-of-spec =
     returns
     cast-first
     shl-first
+    led-from-requires
     grown-requires
-    grown-requires-2
-    union-of-rows-requires
     returns-2)
