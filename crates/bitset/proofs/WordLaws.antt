@@ -6,14 +6,13 @@ use Prim.Native.Nat.{ℕ, _-_, _^_, _<_}
 use native.Mathlib.Omega.{arith}
 use lib.Dec.{eqb}
 use lib.Pow.{pow-lt, pow-pos}
-use lib.Bits.{bitAnd, bitOr, and-le-l, and-le-r, or-disjoint}
+use lib.Bits.{bitAnd, bitOr, and-le-l, or-disjoint}
 use lib.Count.{trailingZeros}
 use borrow.Author.Tests.{eq-eqb, ne-eqb, not-true}
-use Rattle.bitset.specs.Sets.{has, setOf, meet}
+use Rattle.bitset.specs.Sets.{has, setOf}
 use Rattle.bitset.proofs.BoolLaws.{not-both, is-false, and-intro, and-l, and-r, or-l, or-r, or-cases}
-use Rattle.bitset.proofs.QuantLaws.{any-none}
 use Rattle.bitset.proofs.HasLaws.{has-zero, has-and, has-or, member-below}
-use Rattle.bitset.proofs.SetLaws.{has-diff, has-self, has-one, none-zero, meet-intro}
+use Rattle.bitset.proofs.SetLaws.{has-diff, has-self, has-one, none-zero}
 use Rattle.bitset.proofs.LeastLaws.{trailing-least, has-clear}
 use Rattle.bitset.proofs.MachineLaws.{pow-setOf, within-of-diff}
 
@@ -28,17 +27,13 @@ in-and a b u i =
 pub and-none : (a b u : ℕ) → bitAnd a b ≡ 0 → has a u ≡ true → has b u ≡ true → ⊥
 and-none a b u e p q = not-both (has-and a b u ∙ and-intro p q) (ap (λ (w : ℕ). has w u) e ∙ has-zero u)
 
-pub meet-none : (m a b : ℕ) → bitAnd a b ≡ 0 → meet m a b ≡ false
-unfolding meet
-meet-none m a b e = any-none m (λ k. has a k && has b k) (λ k l. sym (has-and a b k) ∙ ap (λ (w : ℕ). has w k) e ∙ has-zero k)
-
 -- `a & b != 0`
-pub meet-some : (m a b : ℕ) → b < 2 ^ m → 0 < bitAnd a b → meet m a b ≡ true
-meet-some m a b h p =
-    let k = trailingZeros m (bitAnd a b) in
-    let r = trailing-least m (bitAnd a b) p (omega (arith, and-le-r a b)) in
-    let (x, y) = in-and a b k (r .member) in
-    meet-intro m a b k (r .below) x y
+pub and-some : (m a b : ℕ) → a < 2 ^ m → 0 < bitAnd a b → (u : ℕ) × (u < m) × (has a u ≡ true) × (has b u ≡ true)
+and-some m a b h p =
+    let u : ℕ = trailingZeros m (bitAnd a b) in
+    let r = trailing-least m (bitAnd a b) p (omega (arith, and-le-l a b)) in
+    let (x, y) = in-and a b u (r .member) in
+    (u, r .below, x, y)
 
 -- ---- `a & !b`
 

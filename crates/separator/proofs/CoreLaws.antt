@@ -4,17 +4,15 @@ use mathlib.Core.Bool.{true}
 use mathlib.Core.List.{List}
 use Prim.Native.Nat.{ℕ, _-_, _^_, _<_}
 use native.Mathlib.Omega.{arith}
-use lib.Bits.{bitAnd, bitOr, and-le-l}
-use lib.Count.{trailingZeros}
+use lib.Bits.{bitAnd, bitOr}
 use lib.Pow.{pow-lt}
 use Rattle.bitset.specs.Sets.{has}
 use Rattle.bitset.specs.inner.Members.{Within}
 use Rattle.bitset.proofs.BoolLaws.{not-both}
 use Rattle.bitset.proofs.HasLaws.{has-zero, member-below}
-use Rattle.bitset.proofs.LeastLaws.{trailing-least}
 use Rattle.bitset.proofs.SetLaws.{has-self}
 use Rattle.bitset.proofs.OnesLaws.{pow-within}
-use Rattle.bitset.proofs.WordLaws.{in-and}
+use Rattle.bitset.proofs.WordLaws.{and-some}
 use Rattle.circuit.specs.Legs.{leg, columns}
 use Rattle.circuit.proofs.LegsLaws.{column-leg}
 use Rattle.separator.specs.declared.level.Core.{Core}
@@ -80,11 +78,6 @@ module _ (t : List ℕ) (w : ℕ) where
   pub core-led : (core : Core) (start : ℕ) → CoreOf t w core → start < 2 ^ 64 → 0 < bitAnd start (core .back)
       → bitOr (core .ahead) (grow 64 64 (leg t) (bitAnd w ((2 ^ 64 - 1) - core .ahead)) (bitAnd start ((2 ^ 64 - 1) - core .ahead))) ≡ led start
   core-led core start C hs p =
+      let (e, l, into, home) = and-some 64 start (core .back) hs p in
       grow-beside 64 (leg t) w start (core .ahead) hs (C .fits) (C .closed) (λ b lb hb.
-      from-on start e (grow-keeps 64 (leg t) w 64 start e (member-below 64 start e hs (met .0)) (met .0)) b lb (C .leads e b (met .1) hb))
-    where
-      e : ℕ
-      e = trailingZeros 64 (bitAnd start (core .back))
-
-      met : (has start e ≡ true) × (has (core .back) e ≡ true)
-      met = in-and start (core .back) e (trailing-least 64 (bitAnd start (core .back)) p (omega (arith, and-le-l start (core .back))) .member)
+      from-on start e (grow-keeps 64 (leg t) w 64 start e l into) b lb (C .leads e b home hb))
