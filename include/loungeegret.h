@@ -95,7 +95,8 @@ uint32_t loungeegret_chain(uint64_t *state, size_t state_length, uint32_t *remov
 /*
  * A pass by hand. The seed is the number of a station, from 1. `*removed` as for a sweep. Where a station is out of reach, because no
  * path along legs, each taken in either direction, joins the seed to it, the end becomes none and no leg goes: under every limit,
- * before any separator is looked at.
+ * before any separator is looked at. What lies between two stations of a separator counts as a way from the one to the other only
+ * where it can be driven, by legs in their own direction.
  */
 uint32_t loungeegret_pass(uint64_t *state, size_t state_length, size_t seed, uint32_t *removed);
 

@@ -1,5 +1,5 @@
 -- The marks of the definition, on n stations with the components of a list, are those that the code finds, on 64 stations with the components of an
--- array. Here and in EndsLaws it matters what a component's mark is. Assumes nothing.
+-- array. Here, in EndsLaws and in MarkLaws it matters what a component's mark is. Assumes nothing.
 use mathlib.Core.Path.{_≡_, refl, sym, ap, ap₂, _∙_, subst}
 use mathlib.Core.Bool.{Bool, true, false, not, _&&_}
 use mathlib.Core.List.{List}

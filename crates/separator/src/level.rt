@@ -47,7 +47,7 @@ fn part_of(parts: &[u64; 64], m: usize) -> u64
     parts[m - 1]
 }
 
-// The core of the component's lowest station: what it leads to, and what leads to it.
+// The core of the component's lowest station: what it leads to, and what leads to it. Where there is no component, as for bare, it is empty.
 fn core_of(rows: &[u64; 64], cols: &[u64; 64], part: u64) -> Core
     requires { ⌜ now cols ≡ columns 64 (now rows) ⌝ }
     ensures { λ r. ⌜ CoreOf (now (rows .entry)) part r ⌝ }

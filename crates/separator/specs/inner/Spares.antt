@@ -22,7 +22,8 @@ unfoldable pub partOf : List ℕ → ℕ → ℕ
 partOf cs zero = 0
 partOf cs (suc c) = row cs c
 
--- A core of the component w: by legs inside w each station of `back` leads to all of `ahead`, and from there no leg leads further.
+-- A core of the component w: by legs inside w each station of `back` leads to all of `ahead`, and from there no leg leads further. `beyond` has the stations that
+-- have a leg from `ahead`.
 pub record CoreOf (t : List ℕ) (w : ℕ) (core : Core) : Type 0 where
   pub fits : core .ahead < 2 ^ 64
   pub closed : (a b : ℕ) → a < 64 → b < 64 → leg t a b ≡ true → has w b ≡ true → has (core .ahead) a ≡ true → has (core .ahead) b ≡ true
