@@ -61,9 +61,11 @@ impl SeparatorGraph {
         components: &[BTreeSet<usize>],
         reached: impl Fn(&LegTable, &BTreeSet<usize>, usize) -> BTreeSet<usize>,
     ) -> SeparatorGraph {
+        // The other stations of a component are no way in.
+        let entered = |c: &&usize| separator.iter().any(|&i| table.has(i, **c));
         let ways_inside = |component: &BTreeSet<usize>| {
             let from = |&c: &usize| (c, reached(table, component, c));
-            component.iter().map(from).collect()
+            component.iter().filter(entered).map(from).collect()
         };
         let ways: Vec<Ways> = components.iter().map(ways_inside).collect();
         let mut marks = BTreeMap::new();
