@@ -2,7 +2,8 @@
 //! to a way out.
 
 use super::{add_road, add_round, fill_group, round_along, Xorshift};
-use crate::table::LegTable;
+use crate::paper::{dead_end, valley};
+use crate::table::{Leg, LegTable};
 
 /// Two to five hubs, a depot with a road to each, and behind the hubs less valleys than
 /// there are hubs: from the depot the hubs are a level, and each valley is one of its
@@ -56,4 +57,48 @@ fn add_valley(rng: &mut Xorshift, table: &mut LegTable, hubs: &[usize], valley: 
             table.add(rng.pick(valley), hub);
         }
     }
+}
+
+/// The valley of the paper with a road n→…→6→5 in place of its one leg.
+pub fn long_valley(n: usize) -> LegTable {
+    with_road(&valley(), n, (5..n).map(|k| (k + 1, k)))
+}
+
+pub fn long_dead_end(n: usize) -> LegTable {
+    with_road(&dead_end(), n, (5..n).map(|k| (k + 1, k)))
+}
+
+/// The long valley with legs both ways, but for the one from station `gap` to the next.
+/// Up to `gap` the road can be driven either way, and from there on only back.
+pub fn road_with_gap(n: usize, gap: usize) -> LegTable {
+    let up = (5..n).filter(|&k| k != gap).map(|k| (k, k + 1));
+    let down = (5..n).map(|k| (k + 1, k));
+    with_road(&valley(), n, up.chain(down))
+}
+
+/// Station 6 of a table of six comes to the end of a road from 5 on.
+fn with_road(table: &LegTable, n: usize, road: impl Iterator<Item = Leg>) -> LegTable {
+    let end = |k| if k == 6 { n } else { k };
+    let legs = table.legs().into_iter().filter(|&leg| leg != (6, 5));
+    let legs = legs.map(|(i, j)| (end(i), end(j)));
+    LegTable::from_legs(n, legs.chain(road))
+}
+
+/// From seed 4 the separator is {1, 2, 3}. Its round 4→3→5→2→6→1→4 comes to the valley
+/// of 5 and 6 twice, and leaves it where it has entered it. Without such ways station 2
+/// has no mark in an out-choice.
+pub fn through_one_station() -> LegTable {
+    let between = [(1, 4), (4, 2), (4, 3)];
+    let valley = [(2, 6), (3, 5), (5, 2), (5, 6), (6, 1)];
+    LegTable::from_legs(6, between.into_iter().chain(valley))
+}
+
+/// From seed 4 the separator is {1, 2, 3}. The valley of 5 and 6 is entered by 2→6, and
+/// the way from there to 5→1 leaves it by 6→3, to come back by 1→5. It does not count:
+/// in an in-choice only 3 can take the valley, and 1→3 goes. Out-choices are the same
+/// without ways; 4→2→1→5→6→3→4 is a round.
+pub fn way_outside() -> LegTable {
+    let between = [(1, 3), (1, 4), (2, 1), (3, 4), (4, 2)];
+    let valley = [(1, 5), (2, 6), (5, 1), (5, 6), (6, 3)];
+    LegTable::from_legs(6, between.into_iter().chain(valley))
 }
