@@ -40,6 +40,7 @@ fn fast_calls_differ_nowhere() {
     let valleys = &counts.valleys;
     assert!(valleys.struck > 20 && valleys.none > 15 && valleys.runs > 10);
     assert_eq!(counts.missing(1_000), None);
+    assert_eq!(counts.missing(2_000), Some("valleys"));
 }
 
 #[test]

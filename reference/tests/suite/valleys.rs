@@ -323,7 +323,7 @@ fn ways_bar_marks_and_give_none() {
             passes.hold(&table, seed, limit);
         }
     }
-    assert!(passes.same > 10_000 && passes.struck > 80 && passes.none > 80);
+    assert!(passes.same > 10_000 && passes.struck > 80 && passes.none > 40);
 }
 
 /// Every seed and several limits by hand, and a whole run.
