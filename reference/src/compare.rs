@@ -25,7 +25,7 @@ use crate::card;
 use crate::gen::Xorshift;
 use crate::hand::Handled;
 use crate::program;
-use crate::state::{End, WorkState, LARGEST_LIMIT};
+use crate::state::{End, WorkState};
 
 pub use self::difference::Difference;
 pub use self::islands::IslandCounts;
@@ -298,30 +298,6 @@ impl Session<'_> {
             self.call(Call::Run { budget })?;
             self.put(kept);
         }
-        Ok(())
-    }
-
-    /// Passes on the opened state with the highest limit, and a whole run that starts
-    /// with the one that tells, which the following calls don't see.
-    fn valleys_and_back(&mut self, telling: u64) -> Found<()> {
-        let kept = self.state;
-        let limit = LARGEST_LIMIT;
-        let wide = WorkState { limit, ..kept };
-        for seed in draw::seeds_with(&mut self.rng, kept.n, telling) {
-            self.put(wide);
-            let answer = self.call(Call::Pass { seed })?;
-            if let (true, Answer::Handled(passed)) = (seed == telling, answer) {
-                self.counts.valleys.note_pass(&wide, seed, &passed);
-            }
-        }
-        let place = telling + 1;
-        let before = WorkState { place, ..wide };
-        self.put(before);
-        let budget = u32::MAX;
-        if let Answer::Ran(ran) = self.call(Call::Run { budget })? {
-            self.counts.valleys.note_run(&before, budget, &ran);
-        }
-        self.put(kept);
         Ok(())
     }
 

@@ -1,7 +1,6 @@
 //! Random arguments: mostly sound ones, and every kind of unsound one.
 
 use super::call::Call;
-use super::valleys;
 use crate::fast;
 use crate::filled::Filled;
 use crate::gen::{random_round, Xorshift, WIDE_NUMBERS};
@@ -73,17 +72,6 @@ fn pass(rng: &mut Xorshift, state: &WorkState) -> Call {
 pub fn sound_pass(rng: &mut Xorshift, state: &WorkState) -> Call {
     let seed = rng.between(1, stations(state)) as u64;
     Call::Pass { seed }
-}
-
-/// All seeds of few stations; else the given one and some others.
-pub fn seeds_with(rng: &mut Xorshift, n: u64, given: u64) -> Vec<u64> {
-    if n as usize <= valleys::MOST_STATIONS {
-        return (1..=n).collect();
-    }
-    let mut seeds = vec![given];
-    let others = rng.order(n as usize).into_iter().map(|seed| seed as u64);
-    seeds.extend(others.filter(|&seed| seed != given).take(3));
-    seeds
 }
 
 pub fn run(rng: &mut Xorshift, state: &WorkState) -> Call {

@@ -1,6 +1,8 @@
 //! Passes and runs by marks that ask for no way inside their component, and counts of
 //! the tables that tell them from the sound ones.
 
+use super::call::{Answer, Call};
+use super::{Found, Session};
 use crate::choices::SeparatorGraph;
 use crate::fast;
 use crate::gen::{one_way_valleys, Xorshift};
@@ -107,4 +109,41 @@ impl ValleyCounts {
             self.runs += u64::from(run_without_ways(*before, budget) != *ran);
         }
     }
+}
+
+impl Session<'_> {
+    /// Passes on the opened state with the highest limit, and a whole run that starts
+    /// with the one that tells, which the following calls don't see.
+    pub fn valleys_and_back(&mut self, telling: u64) -> Found<()> {
+        let kept = self.state;
+        let limit = LARGEST_LIMIT;
+        let wide = WorkState { limit, ..kept };
+        for seed in seeds_with(&mut self.rng, kept.n, telling) {
+            self.put(wide);
+            let answer = self.call(Call::Pass { seed })?;
+            if let (true, Answer::Handled(passed)) = (seed == telling, answer) {
+                self.counts.valleys.note_pass(&wide, seed, &passed);
+            }
+        }
+        let place = telling + 1;
+        let before = WorkState { place, ..wide };
+        self.put(before);
+        let budget = u32::MAX;
+        if let Answer::Ran(ran) = self.call(Call::Run { budget })? {
+            self.counts.valleys.note_run(&before, budget, &ran);
+        }
+        self.put(kept);
+        Ok(())
+    }
+}
+
+/// All seeds of few stations; else the given one and some others.
+fn seeds_with(rng: &mut Xorshift, n: u64, given: u64) -> Vec<u64> {
+    if n as usize <= MOST_STATIONS {
+        return (1..=n).collect();
+    }
+    let mut seeds = vec![given];
+    let others = rng.order(n as usize).into_iter().map(|seed| seed as u64);
+    seeds.extend(others.filter(|&seed| seed != given).take(3));
+    seeds
 }

@@ -36,6 +36,13 @@ pub fn script() -> Script {
     script
 }
 
+/// The section of valleys alone.
+pub fn valleys() -> Script {
+    let mut script = Script::default();
+    valleys::add(&mut script);
+    script
+}
+
 fn open_table(script: &mut Script, limit: u64, table: &LegTable) {
     script.open(limit, &Sheet::of(table).bytes());
 }

@@ -51,7 +51,7 @@ fn whole(script: &mut Script, table: &LegTable) {
     script.run(u32::MAX);
 }
 
-/// The station at the way in gets each rank among its neighbours.
+/// Turned round, and under names by which the way in is not the lowest station.
 fn other_names(script: &mut Script, table: &LegTable) {
     every_seed(script, 64, &reversed(table));
     for names in [[2, 3, 4, 5, 6, 1], [6, 5, 4, 3, 2, 1], [5, 3, 6, 1, 2, 4]] {

@@ -9,9 +9,10 @@ use reference::graph::{components, inner, levels, reached_inside, unreached};
 use reference::hand::Verdict;
 use reference::pass::pass_by;
 use reference::table::Leg;
-use reference::LegTable;
+use reference::{vectors, Calls, LegTable, Plain};
 
 use crate::other_pass::OtherPass;
+use crate::scripts::answers;
 
 type Stations = BTreeSet<usize>;
 
@@ -136,14 +137,30 @@ fn pass_by_one_direction(
     Verdict::Undecided
 }
 
+impl Fault {
+    /// The fast calls with passes of this fault.
+    fn calls(self) -> impl Calls {
+        OtherPass(move || move |table: &mut LegTable, seed, limit| self.pass(table, seed, limit))
+    }
+}
+
 #[test]
 fn faults_with_ways_are_found() {
     for (fault, enough) in FAULTS {
-        let faulty =
-            OtherPass(|| move |table: &mut LegTable, seed, limit| fault.pass(table, seed, limit));
+        let faulty = fault.calls();
         for seed in 1..=3 {
             let found = (0..enough).find(|&index| compare_sheet(&faulty, seed, index).is_err());
             assert!(found.is_some(), "{fault:?} is not found with seed {seed}");
         }
+    }
+}
+
+#[test]
+fn the_vectors_tell_faults_with_ways() {
+    let script = vectors::valleys();
+    let sound = answers(&Plain, script.bytes());
+    for (fault, _) in FAULTS {
+        let told = answers(&fault.calls(), script.bytes());
+        assert!(told != sound, "{fault:?}");
     }
 }
