@@ -7,8 +7,8 @@ use std::ops::RangeInclusive;
 use crate::card::{self, Number};
 use crate::table::{Leg, LegTable};
 
-pub use self::valleys::{long_dead_end, long_valley, one_way_valleys};
-pub use self::valleys::{road_with_gap, through_one_station, way_outside};
+pub use self::valleys::{long_dead_end, long_valley, no_way_left, one_way_valleys};
+pub use self::valleys::{road_with_gap, through_one_station, way_outside, way_struck_before};
 
 /// Numbers that a cast to fewer bits turns into 1, or that are just large.
 pub const WIDE_NUMBERS: [u64; 5] = [257, 1 << 32, (1 << 32) + 1, 1 << 63, u64::MAX];

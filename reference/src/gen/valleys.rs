@@ -102,3 +102,20 @@ pub fn way_outside() -> LegTable {
     let valley = [(1, 5), (2, 6), (5, 1), (5, 6), (6, 3)];
     LegTable::from_legs(6, between.into_iter().chain(valley))
 }
+
+/// From seed 6 level {1, 5} strikes 1→5, by which 4→1 led to 5→3. At level {2, 3, 4} only
+/// 2 can then take {1, 5, 6} in an in-choice, and 3→2 goes. With the legs that stood at
+/// first it would stay; 6→1→2→7→4→3→5→6 is a round.
+pub fn way_struck_before() -> LegTable {
+    let from_1_to_3 = [(1, 2), (1, 5), (2, 7), (3, 2), (3, 5)];
+    let from_4_to_7 = [(4, 1), (4, 3), (5, 3), (5, 6), (6, 1), (7, 4)];
+    LegTable::from_legs(7, from_1_to_3.into_iter().chain(from_4_to_7))
+}
+
+/// From seed 3 level {1, 4} strikes 1→4. At level {2, 6} no way is left from 2→1 to 4→6,
+/// and {1, 3, 4} can't be used.
+pub fn no_way_left() -> LegTable {
+    let from_1_to_3 = [(1, 2), (1, 4), (2, 1), (2, 6), (3, 1)];
+    let from_4_to_6 = [(4, 3), (4, 6), (5, 2), (6, 4), (6, 5)];
+    LegTable::from_legs(6, from_1_to_3.into_iter().chain(from_4_to_6))
+}

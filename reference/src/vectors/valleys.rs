@@ -2,8 +2,9 @@
 //! or only in one direction.
 
 use crate::compare::valleys::TellingTable;
-use crate::gen::{long_dead_end, long_valley, renamed, reversed, ring, two_way};
-use crate::gen::{road_with_gap, through_one_station, way_outside, Sheet, Xorshift};
+use crate::gen::{long_dead_end, long_valley, no_way_left, renamed, reversed, ring, two_way};
+use crate::gen::{road_with_gap, through_one_station, way_outside, way_struck_before};
+use crate::gen::{Sheet, Xorshift};
 use crate::paper::{self, NINE_LEGS};
 use crate::script::Script;
 use crate::state::{last_place, WorkState};
@@ -22,6 +23,7 @@ pub fn add(script: &mut Script) {
     cases_as_before(script);
     through_stations(script);
     ways_outside(script);
+    ways_struck_before(script);
     long_roads(script);
     most_stations(script);
     made_up(script);
@@ -121,6 +123,17 @@ fn ways_outside(script: &mut Script) {
         }
         open_short(script, 64, &table);
         script.run(u32::MAX);
+    }
+}
+
+/// A level strikes a leg on a way of the next one. A lower limit skips one of them.
+fn ways_struck_before(script: &mut Script) {
+    for table in [way_struck_before(), reversed(&way_struck_before())] {
+        whole(script, &table);
+        seeds(script, 2, &table, &[6]);
+    }
+    for table in [no_way_left(), reversed(&no_way_left())] {
+        whole(script, &table);
     }
 }
 

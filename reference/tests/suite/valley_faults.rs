@@ -34,10 +34,12 @@ enum Fault {
     LowestWayIn,
     /// The other choices read the mark as it stood before.
     OnlyOneDirection(Direction),
+    /// Ways by the legs that stood at the start of the pass.
+    FirstLegs,
 }
 
 /// Faults with the number of sheets that suffice to find them.
-const FAULTS: [(Fault, u64); 10] = [
+const FAULTS: [(Fault, u64); 11] = [
     (Fault::NoWay, 40),
     (Fault::AgainstTheLegs, 20),
     (Fault::OneStationLeftOut, 20),
@@ -48,6 +50,7 @@ const FAULTS: [(Fault, u64); 10] = [
     (Fault::LowestWayIn, 200),
     (Fault::OnlyOneDirection(Direction::Out), 200),
     (Fault::OnlyOneDirection(Direction::In), 200),
+    (Fault::FirstLegs, 2_000),
 ];
 
 impl Fault {
@@ -55,7 +58,11 @@ impl Fault {
         if let Fault::OnlyOneDirection(direction) = self {
             return pass_by_one_direction(direction, table, seed, limit);
         }
-        pass_by(table, seed, limit, |table, level| self.marked(table, level))
+        let first = table.clone();
+        pass_by(table, seed, limit, |table, level| match self {
+            Fault::FirstLegs => marked_by(&first, table, level),
+            _ => self.marked(table, level),
+        })
     }
 
     fn marked(self, table: &LegTable, level: &Stations) -> SeparatorGraph {
@@ -89,6 +96,14 @@ impl Fault {
             reached
         })
     }
+}
+
+/// Marks by the ways of another table.
+fn marked_by(other: &LegTable, table: &LegTable, level: &Stations) -> SeparatorGraph {
+    let groups = components(table, level);
+    SeparatorGraph::by_ways(table, level, &groups, |_, group, c| {
+        reached_inside(other, group, c)
+    })
 }
 
 /// The groups of stations that lead to each other by legs outside the separator.

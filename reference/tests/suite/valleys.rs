@@ -5,9 +5,11 @@ use std::collections::BTreeSet;
 
 use reference::choices::{Direction, Mark, SeparatorGraph};
 use reference::compare::valleys::{pass_without_ways, run_without_ways, TellingTable};
-use reference::gen::{all_tables, any_table, long_dead_end, long_valley, one_way_valleys};
+use reference::gen::{
+    all_tables, any_table, long_dead_end, long_valley, no_way_left, one_way_valleys,
+};
 use reference::gen::{renamed, reversed, ring, road_with_gap, through_one_station, two_way};
-use reference::gen::{way_outside, Xorshift};
+use reference::gen::{way_outside, way_struck_before, Xorshift};
 use reference::graph::{components, inner, levels, reached_inside};
 use reference::hand::Verdict;
 use reference::list_check;
@@ -250,6 +252,21 @@ fn ways_outside_the_component_do_not_count() {
         for calls in BOTH {
             assert_eq!(passed(calls, &table, 4), gone(leg));
         }
+    }
+}
+
+/// The marks of a level belong to the legs that the levels before have left.
+#[test]
+fn ways_lose_the_legs_of_earlier_levels() {
+    assert_eq!(rounds(&way_struck_before()), [vec![2, 7, 5, 3, 6, 1, 4]]);
+    let (two_legs, one_leg) = (vec![(1, 5), (3, 2)], vec![(1, 4)]);
+    for calls in BOTH {
+        let struck = passed(calls, &way_struck_before(), 6);
+        assert_eq!(struck, (two_legs.clone(), false));
+        let mut without = way_struck_before();
+        without.strike(&[(1, 5)]);
+        assert_eq!(passed(calls, &without, 6), gone((3, 2)));
+        assert_eq!(passed(calls, &no_way_left(), 3), (one_leg.clone(), true));
     }
 }
 
