@@ -8,6 +8,7 @@
 
 use std::collections::{BTreeMap, BTreeSet};
 
+use crate::graph::reached_inside;
 use crate::table::{Leg, LegTable};
 
 #[derive(Clone, Copy, Debug, PartialEq, Eq, PartialOrd, Ord)]
@@ -49,10 +50,28 @@ impl SeparatorGraph {
         separator: &BTreeSet<usize>,
         components: &[BTreeSet<usize>],
     ) -> SeparatorGraph {
+        SeparatorGraph::by_ways(table, separator, components, reached_inside)
+    }
+
+    /// Marks by ways of another kind: `reached` gets a component and a station c of
+    /// it, and tells which stations d of it count as reached from c.
+    pub fn by_ways(
+        table: &LegTable,
+        separator: &BTreeSet<usize>,
+        components: &[BTreeSet<usize>],
+        reached: impl Fn(&LegTable, &BTreeSet<usize>, usize) -> BTreeSet<usize>,
+    ) -> SeparatorGraph {
+        // The other stations of a component are no way in.
+        let entered = |c: &&usize| separator.iter().any(|&i| table.has(i, **c));
+        let ways_inside = |component: &BTreeSet<usize>| {
+            let from = |&c: &usize| (c, reached(table, component, c));
+            component.iter().filter(entered).map(from).collect()
+        };
+        let ways: Vec<Ways> = components.iter().map(ways_inside).collect();
         let mut marks = BTreeMap::new();
         for &i in separator {
             for &j in separator.iter().filter(|&&j| j != i) {
-                marks.insert((i, j), marks_on(table, components, (i, j)));
+                marks.insert((i, j), marks_on(table, &ways, (i, j)));
             }
         }
         SeparatorGraph {
@@ -111,19 +130,27 @@ impl SeparatorGraph {
     }
 }
 
-fn marks_on(table: &LegTable, components: &[BTreeSet<usize>], (i, j): Leg) -> BTreeSet<Mark> {
+/// For each station of a component, the stations of it that are reached from there.
+type Ways = BTreeMap<usize, BTreeSet<usize>>;
+
+fn marks_on(table: &LegTable, ways: &[Ways], (i, j): Leg) -> BTreeSet<Mark> {
     let mut marks = BTreeSet::new();
     if table.has(i, j) {
         marks.insert(Mark::Bare);
     }
-    for (index, component) in components.iter().enumerate() {
-        let entered = component.iter().any(|&c| table.has(i, c));
-        let left = component.iter().any(|&c| table.has(c, j));
-        if entered && left {
+    for (index, ways) in ways.iter().enumerate() {
+        if leads_through(table, ways, (i, j)) {
             marks.insert(Mark::Component(index));
         }
     }
     marks
+}
+
+/// Are there stations c and d of the component with legs i→c and d→j, and d is
+/// reached from c?
+fn leads_through(table: &LegTable, ways: &Ways, (i, j): Leg) -> bool {
+    ways.iter()
+        .any(|(&c, reached)| table.has(i, c) && reached.iter().any(|&d| table.has(d, j)))
 }
 
 /// Whether every component can be handed to a station of its own that offers

@@ -7,6 +7,7 @@ mod draw;
 mod islands;
 mod made;
 pub mod neighbours;
+pub mod valleys;
 mod watch;
 mod written;
 
@@ -15,8 +16,9 @@ use std::panic::{catch_unwind, AssertUnwindSafe};
 
 use self::call::{Answer, Call};
 use self::difference::Step;
-use self::made::Known;
+use self::made::{Kind, Known};
 use self::neighbours::NeighbourCounts;
+use self::valleys::ValleyCounts;
 use self::watch::Watch;
 use crate::calls::{Calls, Fast, Plain};
 use crate::card;
@@ -49,6 +51,7 @@ pub struct Counts {
     pub chains: ChainCounts,
     pub islands: IslandCounts,
     pub neighbours: NeighbourCounts,
+    pub valleys: ValleyCounts,
     pub written: WrittenCounts,
 }
 
@@ -99,13 +102,16 @@ impl Counts {
         self.chains.add(&other.chains);
         self.islands.add(&other.islands);
         self.neighbours.add(&other.neighbours);
+        self.valleys.add(&other.valleys);
         self.written.add(&other.written);
     }
 
-    /// What is still missing of the calls that many sheets have.
-    pub fn missing(&self) -> Option<&'static str> {
+    /// What is still missing of the calls that so many sheets have.
+    pub fn missing(&self, sheets: u64) -> Option<&'static str> {
         if !self.neighbours.complete() {
             Some("neighbours")
+        } else if !self.valleys.complete(sheets) {
+            Some("valleys")
         } else if !self.written.complete() {
             Some("written sheets")
         } else {
@@ -229,11 +235,11 @@ impl Session<'_> {
     fn sequence(&mut self) -> Found<()> {
         self.writes()?;
         self.chain_and_back()?;
-        if self.made.islands {
-            self.islands_and_back()?;
-        }
-        if self.made.striking {
-            self.seeds_and_back()?;
+        match self.made.kind {
+            Kind::Any => {}
+            Kind::Islands => self.islands_and_back()?,
+            Kind::Striking => self.seeds_and_back()?,
+            Kind::Valleys { seed } => self.valleys_and_back(seed)?,
         }
         for _ in 0..self.rng.between(4, 9) {
             match self.rng.below(12) {

@@ -7,6 +7,7 @@
 mod bits;
 mod chain;
 mod components;
+mod flood;
 mod grid;
 mod lines;
 mod list;

@@ -1,9 +1,14 @@
 //! Tables and sheets made from a seed, the same ones on every machine.
 
+mod valleys;
+
 use std::ops::RangeInclusive;
 
 use crate::card::{self, Number};
 use crate::table::{Leg, LegTable};
+
+pub use self::valleys::{long_dead_end, long_valley, no_way_left, one_way_valleys};
+pub use self::valleys::{road_with_gap, through_one_station, way_outside, way_struck_before};
 
 /// Numbers that a cast to fewer bits turns into 1, or that are just large.
 pub const WIDE_NUMBERS: [u64; 5] = [257, 1 << 32, (1 << 32) + 1, 1 << 63, u64::MAX];
@@ -208,20 +213,28 @@ pub fn loop_among(length: usize, n: usize) -> LegTable {
 /// Adds the legs of a random round and says which: entry i−1 follows station i.
 pub fn plant_round(rng: &mut Xorshift, table: &mut LegTable) -> Vec<usize> {
     let round = random_round(rng, table.n());
-    for (at, &next) in round.iter().enumerate() {
-        table.add(at + 1, next);
-    }
+    add_round(table, &round);
     round
 }
 
 /// A round of the full table.
 pub fn random_round(rng: &mut Xorshift, n: usize) -> Vec<usize> {
-    let order = rng.order(n);
-    let mut round = vec![0; n];
+    round_along(&rng.order(n))
+}
+
+/// The round that comes to the stations in this order.
+fn round_along(order: &[usize]) -> Vec<usize> {
+    let mut round = vec![0; order.len()];
     for (at, &station) in order.iter().enumerate() {
-        round[station - 1] = order[(at + 1) % n];
+        round[station - 1] = order[(at + 1) % order.len()];
     }
     round
+}
+
+fn add_round(table: &mut LegTable, round: &[usize]) {
+    for (at, &next) in round.iter().enumerate() {
+        table.add(at + 1, next);
+    }
 }
 
 /// All lists of n numbers of a range; the first number changes fastest.

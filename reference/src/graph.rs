@@ -1,4 +1,5 @@
-//! Levels and components of a leg table, both by neighbours.
+//! Levels and components of a leg table, both by neighbours, and the ways inside a
+//! component, along its legs.
 
 use std::collections::BTreeSet;
 
@@ -60,4 +61,23 @@ fn search(table: &LegTable, separator: &BTreeSet<usize>, start: usize) -> BTreeS
         }
     }
     found
+}
+
+/// The stations of a component that can be reached from one of them by legs inside
+/// it; each reaches itself.
+pub fn reached_inside(
+    table: &LegTable,
+    component: &BTreeSet<usize>,
+    from: usize,
+) -> BTreeSet<usize> {
+    let mut reached = BTreeSet::from([from]);
+    let mut waiting = vec![from];
+    while let Some(i) = waiting.pop() {
+        for &j in table.successors(i) {
+            if component.contains(&j) && reached.insert(j) {
+                waiting.push(j);
+            }
+        }
+    }
+    reached
 }

@@ -39,6 +39,21 @@ pub fn greedy_trap() -> LegTable {
     LegTable::from_legs(4, [(1, 2), (1, 3), (2, 1), (3, 1), (2, 4), (4, 2), (4, 3)])
 }
 
+/// A valley driven the wrong way: 6→5 stands and 5→6 does not, so that the way in by
+/// 1→5 does not lead to the way out by 6→2. From seed 4 the separator is {1, 2, 3}, only
+/// 2 can take {5, 6} in an out-choice and only 1 in an in-choice, and 3→1 goes;
+/// 1→4→3→2→6→5→1 is a round.
+pub fn valley() -> LegTable {
+    let others = [(1, 4), (2, 6), (3, 1), (3, 2), (4, 2), (4, 3), (5, 1)];
+    LegTable::from_legs(6, [(1, 5), (6, 2), (6, 5)].into_iter().chain(others))
+}
+
+/// The same valley, entered at 5 and left from 6 alone: no choice can use it.
+pub fn dead_end() -> LegTable {
+    let others = [(2, 4), (3, 2), (4, 1), (4, 3)];
+    LegTable::from_legs(6, [(1, 5), (6, 2), (6, 5)].into_iter().chain(others))
+}
+
 /// The catalogue's instance with all solutions listed, own stations left out.
 pub fn catalogue() -> LegTable {
     let from_1_and_2 = [(1, 3), (1, 4), (2, 1)];

@@ -22,26 +22,33 @@ pub fn pass(state: WorkState, seed: u64) -> Handled {
     })
 }
 
-/// An unreached station gives none before any level is looked at. The levels
-/// belong to the table at the start, components and marks to the table that the
-/// levels before have left.
 pub fn pass_table(table: &mut LegTable, seed: usize, limit: usize) -> Verdict {
+    pass_by(table, seed, limit, |table, separator| {
+        SeparatorGraph::new(table, separator, &graph::components(table, separator))
+    })
+}
+
+/// A pass that is handed the marks of each level it looks at. An unreached station
+/// gives none before any level is looked at. The levels belong to the table at the
+/// start, components and marks to the table that the levels before have left.
+pub fn pass_by(
+    table: &mut LegTable,
+    seed: usize,
+    limit: usize,
+    mut marked: impl FnMut(&LegTable, &BTreeSet<usize>) -> SeparatorGraph,
+) -> Verdict {
     let levels = graph::levels(table, seed);
     if !graph::unreached(table, &levels).is_empty() {
         return Verdict::None;
     }
-    for level in graph::inner(&levels) {
-        if level.len() <= limit && filter(table, level) == Verdict::None {
+    let inner = graph::inner(&levels).iter();
+    for level in inner.filter(|level| level.len() <= limit) {
+        let graph = marked(table, level);
+        if strike_by(table, &graph) == Verdict::None {
             return Verdict::None;
         }
     }
     Verdict::Undecided
-}
-
-fn filter(table: &mut LegTable, separator: &BTreeSet<usize>) -> Verdict {
-    let components = graph::components(table, separator);
-    let graph = SeparatorGraph::new(table, separator, &components);
-    strike_by(table, &graph)
 }
 
 /// Strikes the legs inside the separator that no choice takes bare.

@@ -2,8 +2,8 @@
 //!
 //! `compare [--seed S] [--sheets COUNT]` goes through that many made-up sheets,
 //! `compare --seed S --sheet K` through a single one of them again. A difference
-//! ends it with status 1, and so does a count of neighbours or of written sheets that
-//! is still 0 after many sheets.
+//! ends it with status 1, and so does, after many sheets, a count of neighbours or of
+//! written sheets that is still 0, or too few tables of valleys.
 
 use std::process::ExitCode;
 use std::str::FromStr;
@@ -40,9 +40,10 @@ fn main() -> ExitCode {
         Ok(counts) => {
             tell(options.seed, end - first, &counts);
             eprintln!("compare: {:.1} seconds", start.elapsed().as_secs_f64());
-            let many = end - first >= MANY_SHEETS;
-            if let Some(missing) = counts.missing().filter(|_| many) {
-                println!("compare: a count of {missing} is 0");
+            let sheets = end - first;
+            let missing = counts.missing(sheets);
+            if let Some(missing) = missing.filter(|_| sheets >= MANY_SHEETS) {
+                println!("compare: too few calls for {missing}");
                 return ExitCode::FAILURE;
             }
             ExitCode::SUCCESS
@@ -145,6 +146,11 @@ fn tell(seed: u64, sheets: u64, counts: &Counts) {
     println!(
         "  neighbours: {} passes by hand have others at a later level, {} differ by outgoing legs alone, {} runs differ by those of the first level",
         neighbours.changed, neighbours.by_outgoing, neighbours.by_first
+    );
+    let valleys = &counts.valleys;
+    println!(
+        "  valleys: {} tables with a pass by hand that differs by marks without a way inside, {} by legs struck and {} by none; {} whole runs differ too",
+        valleys.tables(), valleys.struck, valleys.none, valleys.runs
     );
     let written = &counts.written;
     println!(

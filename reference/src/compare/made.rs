@@ -1,5 +1,6 @@
 //! The sheets to compare on, with what is known of them beforehand.
 
+use super::valleys::{self, TellingTable};
 use crate::card::Number;
 use crate::gen::{self, damaged, plant_round, random, wide_islands, Family, Sheet, Xorshift};
 use crate::table::{Leg, LegTable};
@@ -9,11 +10,21 @@ pub struct Made {
     pub known: Known,
     /// A round that was put into the table: entry i−1 follows station i.
     pub round: Option<Vec<usize>>,
-    /// The table is one on which the levels of a pass often say nothing, although
-    /// some stations are out of reach.
-    pub islands: bool,
-    /// The table is one on which passes often go on after striking legs.
-    pub striking: bool,
+    pub kind: Kind,
+}
+
+/// What the table is made for.
+#[derive(Clone, Copy, Debug, PartialEq, Eq)]
+pub enum Kind {
+    Any,
+    /// The levels of a pass often say nothing, although some stations are out of reach.
+    Islands,
+    /// Passes often go on after striking legs.
+    Striking,
+    /// The pass with this seed tells whether marks ask for a way inside their component.
+    Valleys {
+        seed: u64,
+    },
 }
 
 /// What opening the sheet must give.
@@ -24,10 +35,12 @@ pub enum Known {
 }
 
 impl Made {
-    /// Every fourth sheet is damaged, with each number in turn.
+    /// Every fourth sheet is damaged, with each number in turn, and every sixteenth one
+    /// is of valleys: few other tables tell what theirs do.
     pub fn new(rng: &mut Xorshift, index: u64) -> Made {
-        match index % 4 {
-            3 => damaged_sheet(rng, 1 + (index / 4 % 5) as Number),
+        match index % 16 {
+            3 | 7 | 11 | 15 => damaged_sheet(rng, 1 + (index / 4 % 5) as Number),
+            5 => sheet_of_valleys(rng),
             _ if rng.percent(10) => random_sheet(rng),
             _ if rng.percent(8) => sheet_of_islands(rng),
             _ if rng.percent(6) => striking_sheet(rng),
@@ -52,8 +65,7 @@ fn random_sheet(rng: &mut Xorshift) -> Made {
         bytes: Sheet::random(rng, n).bytes(),
         known: Known::Nothing,
         round: None,
-        islands: false,
-        striking: false,
+        kind: Kind::Any,
     }
 }
 
@@ -64,8 +76,7 @@ fn sheet_of_islands(rng: &mut Xorshift) -> Made {
         bytes: any_sheet(rng, &table).bytes(),
         known: Known::Table(table),
         round: None,
-        islands: true,
-        striking: false,
+        kind: Kind::Islands,
     }
 }
 
@@ -78,8 +89,23 @@ fn striking_sheet(rng: &mut Xorshift) -> Made {
         bytes: any_sheet(rng, &table).bytes(),
         known: Known::Table(table),
         round: None,
-        islands: false,
-        striking: true,
+        kind: Kind::Striking,
+    }
+}
+
+/// Mostly few stations, as tables that tell are looked for.
+fn sheet_of_valleys(rng: &mut Xorshift) -> Made {
+    let n = match rng.below(50) {
+        0..=44 => rng.between(6, valleys::MOST_STATIONS),
+        45..=48 => rng.between(valleys::MOST_STATIONS + 1, 24),
+        _ => rng.between(25, 64),
+    };
+    let TellingTable { table, round, seed } = TellingTable::drawn(rng, n);
+    Made {
+        bytes: any_sheet(rng, &table).bytes(),
+        known: Known::Table(table),
+        round,
+        kind: Kind::Valleys { seed },
     }
 }
 
@@ -94,8 +120,7 @@ fn sheet_of_table(rng: &mut Xorshift) -> Made {
         bytes: any_sheet(rng, &table).bytes(),
         known: Known::Table(table),
         round,
-        islands: false,
-        striking: false,
+        kind: Kind::Any,
     }
 }
 
@@ -149,8 +174,7 @@ fn damaged_sheet(rng: &mut Xorshift, number: Number) -> Made {
         bytes: damaged.bytes,
         known,
         round: None,
-        islands: false,
-        striking: false,
+        kind: Kind::Any,
     }
 }
 
@@ -161,7 +185,6 @@ fn noise(rng: &mut Xorshift) -> Made {
         bytes: bytes.collect(),
         known: Known::Nothing,
         round: None,
-        islands: false,
-        striking: false,
+        kind: Kind::Any,
     }
 }

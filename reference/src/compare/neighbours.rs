@@ -6,7 +6,7 @@ use std::collections::BTreeSet;
 use crate::choices::SeparatorGraph;
 use crate::graph;
 use crate::hand::{Handled, Verdict};
-use crate::pass::strike_by;
+use crate::pass::pass_by;
 use crate::run::{run_with, Ran};
 use crate::state::{End, WorkState};
 use crate::table::LegTable;
@@ -21,18 +21,9 @@ pub fn pass_with(
     limit: usize,
     mut components: impl FnMut(&LegTable, &BTreeSet<usize>) -> Vec<BTreeSet<usize>>,
 ) -> Verdict {
-    let levels = graph::levels(table, seed);
-    if !graph::unreached(table, &levels).is_empty() {
-        return Verdict::None;
-    }
-    let inner = graph::inner(&levels).iter();
-    for level in inner.filter(|level| level.len() <= limit) {
-        let graph = SeparatorGraph::new(table, level, &components(table, level));
-        if strike_by(table, &graph) == Verdict::None {
-            return Verdict::None;
-        }
-    }
-    Verdict::Undecided
+    pass_by(table, seed, limit, |table, level| {
+        SeparatorGraph::new(table, level, &components(table, level))
+    })
 }
 
 /// Does a pass come to a level with other neighbours than those at its start? No

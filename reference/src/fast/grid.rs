@@ -1,8 +1,8 @@
 //! The steps of a run over rows and columns kept side by side.
 
-use super::bits::{all_stations, bit, indices, is_single, transposed};
+use super::bits::{all_stations, bit, indices, transposed};
 use super::chain::Chains;
-use super::components::grow;
+use super::flood::Flood;
 use super::matching::spare_stations;
 use super::sweep::sweep_rows;
 use super::Outcome;
@@ -165,13 +165,9 @@ impl Grid {
             if count == most {
                 return None;
             }
-            let flood = self.flood(rest);
+            let flood = Flood::new(&self.rows, &self.columns, rest);
             rest &= !flood.component;
-            // The two ends of a pair differ, so a lone end bars its station.
-            let enter = flood.entered_from & separator;
-            let leave = flood.leads_to & separator;
-            let out = without_lone(enter, leave);
-            let into = without_lone(leave, enter);
+            let (out, into) = flood.ends(&self.rows, &self.columns, separator);
             if out == 0 || into == 0 {
                 return None;
             }
@@ -181,22 +177,6 @@ impl Grid {
         }
         self.split.count = count;
         Some(())
-    }
-
-    /// The component of the lowest station of `rest`, staying inside `rest`.
-    #[inline]
-    fn flood(&self, rest: u64) -> Flood {
-        let (mut entered_from, mut leads_to) = (0, 0);
-        let component = grow(rest, |i| {
-            entered_from |= self.columns[i];
-            leads_to |= self.rows[i];
-            self.neighbours(i)
-        });
-        Flood {
-            component,
-            entered_from,
-            leads_to,
-        }
     }
 
     /// Keeps a leg inside the separator only if both its ends are spare.
@@ -217,25 +197,5 @@ impl Grid {
             }
         }
         removed
-    }
-}
-
-/// A component with all stations that have a leg into it and all it has a leg
-/// to.
-struct Flood {
-    component: u64,
-    entered_from: u64,
-    leads_to: u64,
-}
-
-/// The stations of `own` that have a different one in `other`.
-#[inline]
-fn without_lone(own: u64, other: u64) -> u64 {
-    if other == 0 {
-        0
-    } else if is_single(other) {
-        own & !other
-    } else {
-        own
     }
 }

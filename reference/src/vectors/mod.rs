@@ -10,6 +10,7 @@ mod openings;
 mod passes;
 mod runs;
 mod sweeps;
+mod valleys;
 mod written;
 
 use crate::gen::{Sheet, WIDE_NUMBERS};
@@ -31,6 +32,14 @@ pub fn script() -> Script {
     lists::add(&mut script);
     neighbours::add(&mut script);
     written::add(&mut script);
+    valleys::add(&mut script);
+    script
+}
+
+/// The section of valleys alone.
+pub fn valleys() -> Script {
+    let mut script = Script::default();
+    valleys::add(&mut script);
     script
 }
 

@@ -37,12 +37,15 @@ fn fast_calls_differ_nowhere() {
     assert!(written.round_trips > 1_500);
     assert!(written.no_field > 1_000 && written.fixed > 5_000);
     assert!(written.next_set > 10_000 && written.empty_set > 500);
-    assert_eq!(counts.missing(), None);
+    let valleys = &counts.valleys;
+    assert!(valleys.struck > 20 && valleys.none > 15 && valleys.runs > 10);
+    assert_eq!(counts.missing(1_000), None);
+    assert_eq!(counts.missing(2_000), Some("valleys"));
 }
 
 #[test]
 fn a_count_that_is_0_is_told() {
-    assert!(Counts::default().missing().is_some());
+    assert!(Counts::default().missing(1_000).is_some());
 }
 
 #[test]

@@ -8,13 +8,12 @@ use reference::compare::neighbours::{neighbours_change, outgoing_components, pas
 use reference::gen::{any_table, reversed, ring_of_rungs, two_way, two_wide_levels};
 use reference::gen::{Family, Xorshift};
 use reference::graph::{components, inner, levels, unreached};
-use reference::hand::{self, Handled, Verdict};
-use reference::list::Checked;
+use reference::hand::Verdict;
 use reference::pass::pass_table;
-use reference::run::{run_with, Ran};
-use reference::sheet::Opened;
 use reference::table::Leg;
-use reference::{Calls, Fast, Filled, LegTable, WorkState};
+use reference::LegTable;
+
+use crate::other_pass::OtherPass;
 
 /// Strikes all legs inside each inner level once it has been looked at; no pass
 /// strikes more. The components of the next ones have to stay as they were. How many
@@ -168,75 +167,15 @@ fn with_stray(table: &LegTable, level: &BTreeSet<usize>, joined: &[usize]) -> Ve
     components
 }
 
-/// The fast calls, but for passes and runs with a fault on few stations: above, they
-/// would take long.
-struct Faulty(Fault);
-
-impl Faulty {
-    fn takes(&self, state: &WorkState) -> bool {
-        state.n <= 12 && !Fast.bad(state)
-    }
-}
-
-impl Calls for Faulty {
-    fn open(&self, sheet: &[u8], limit: u64) -> Opened {
-        Fast.open(sheet, limit)
-    }
-
-    fn sweep(&self, state: WorkState) -> Handled {
-        Fast.sweep(state)
-    }
-
-    fn chain(&self, state: WorkState) -> Handled {
-        Fast.chain(state)
-    }
-
-    fn pass(&self, state: WorkState, seed: u64) -> Handled {
-        if !self.takes(&state) || !(1..=state.n).contains(&seed) {
-            return Fast.pass(state, seed);
-        }
-        hand::by_hand(state, |table| {
-            Growing::new(self.0).pass(table, seed as usize, state.limit as usize)
-        })
-    }
-
-    fn run(&self, state: WorkState, budget: u32) -> Ran {
-        if !self.takes(&state) {
-            return Fast.run(state, budget);
-        }
-        let mut growing = Growing::new(self.0);
-        run_with(state, budget, |table, seed, limit| {
-            growing.pass(table, seed, limit)
-        })
-    }
-
-    fn list_check(&self, state: &WorkState, numbers: &[u8]) -> Checked {
-        Fast.list_check(state, numbers)
-    }
-
-    fn report(&self, state: &WorkState, buffer: &mut [u8]) -> Filled {
-        Fast.report(state, buffer)
-    }
-
-    fn write(&self, state: &WorkState, buffer: &mut [u8]) -> Filled {
-        Fast.write(state, buffer)
-    }
-
-    fn print(&self, sheet: &[u8], buffer: &mut [u8]) -> Filled {
-        Fast.print(sheet, buffer)
-    }
-
-    fn bad(&self, state: &WorkState) -> bool {
-        Fast.bad(state)
-    }
-}
-
 #[test]
 fn faults_with_neighbours_are_found() {
     for (fault, enough) in FAULTS {
+        let faulty = OtherPass(|| {
+            let mut growing = Growing::new(fault);
+            move |table: &mut LegTable, seed, limit| growing.pass(table, seed, limit)
+        });
         for seed in 1..=3 {
-            let found =
-                (0..enough).find(|&index| compare_sheet(&Faulty(fault), seed, index).is_err());
+            let found = (0..enough).find(|&index| compare_sheet(&faulty, seed, index).is_err());
             assert!(found.is_some(), "{fault:?} is not found with seed {seed}");
         }
     }

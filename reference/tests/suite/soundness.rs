@@ -3,7 +3,8 @@
 
 use std::collections::BTreeSet;
 
-use reference::gen::{all_tables, any_table, Xorshift};
+use reference::compare::valleys::TellingTable;
+use reference::gen::{all_tables, any_table, one_way_valleys, Xorshift};
 use reference::rounds::drivable_legs;
 use reference::{chain, pass, run, sweep, End, LegTable, WorkState};
 
@@ -102,6 +103,32 @@ fn random_sequences_up_to_seven() {
         none += u32::from(watched.state.end == End::None);
     }
     assert!(with_round > 1_000 && lost_legs > 500 && none > 500);
+}
+
+/// Each pass on the opened table, then the run.
+#[test]
+fn passes_and_runs_on_valleys_up_to_eight() {
+    let mut rng = Xorshift::new(6);
+    let (mut with_round, mut lost_legs, mut none) = (0, 0, 0);
+    for at in 0..3_000 {
+        let n = rng.between(6, 8);
+        // On every third table marks that ask for no way would tell.
+        let table = match at % 3 {
+            0 => TellingTable::drawn(&mut rng, n).table,
+            _ => one_way_valleys(&mut rng, n).0,
+        };
+        for seed in 1..=n as u64 {
+            let mut watched = Watched::new(&table, 64);
+            let passed = pass(watched.state, seed);
+            watched.accept(passed.state, passed.removed);
+            with_round += u32::from(!watched.drivable.is_empty());
+            lost_legs += u32::from(passed.removed > 0);
+            none += u32::from(passed.state.end == End::None);
+        }
+        let mut watched = Watched::new(&table, rng.pick(&[2, 3, 64]));
+        watched.run_to_the_end();
+    }
+    assert!(with_round > 5_000 && lost_legs > 1_000 && none > 1_000);
 }
 
 /// Any good state, also one that no opening gives.

@@ -12,7 +12,7 @@ pub struct Shape {
     table: fn(&mut Xorshift, usize) -> LegTable,
 }
 
-pub const ALL: [Shape; 8] = [
+pub const ALL: [Shape; 9] = [
     Shape {
         name: "full",
         table: |rng, n| Family::Full.table(rng, n),
@@ -45,6 +45,13 @@ pub const ALL: [Shape; 8] = [
         name: "band",
         table: |rng, n| shuffled(rng, &band(n)),
     },
+    Shape {
+        name: "one-way roads",
+        table: |rng, n| {
+            let table = one_way_roads(rng, n);
+            shuffled(rng, &table)
+        },
+    },
 ];
 
 fn random_with_round(rng: &mut Xorshift, n: usize, density: usize) -> LegTable {
@@ -72,6 +79,36 @@ fn band(n: usize) -> LegTable {
     }
     for i in (4..=n).step_by(2) {
         table.add(i, i - 2);
+    }
+    table
+}
+
+/// The cells of a grid, for n a power of two. Roads join neighbours, each in one
+/// direction: that of a round where it comes along, else any.
+fn one_way_roads(rng: &mut Xorshift, n: usize) -> LegTable {
+    let rows = 1 << (n.ilog2() / 2);
+    let width = n / rows;
+    let at = |row: usize, column: usize| row * width + column + 1;
+    let mut table = LegTable::empty(n);
+
+    // To and fro over all columns but the first, which is the way back.
+    let mut way = Vec::new();
+    for row in 0..rows {
+        let turn = |column| if row % 2 == 0 { column } else { width - column };
+        way.extend((1..width).map(|column| at(row, turn(column))));
+    }
+    way.extend((0..rows).rev().map(|row| at(row, 0)));
+    for (k, &station) in way.iter().enumerate() {
+        table.add(station, way[(k + 1) % n]);
+    }
+
+    let across = (1..=n).filter(|i| i % width != 0).map(|i| (i, i + 1));
+    let along = (1..=n - width).map(|i| (i, i + width));
+    for (i, j) in across.chain(along) {
+        if !table.has(i, j) && !table.has(j, i) {
+            let (from, to) = if rng.percent(50) { (i, j) } else { (j, i) };
+            table.add(from, to);
+        }
     }
     table
 }
