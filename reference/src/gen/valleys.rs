@@ -5,7 +5,7 @@ use super::{add_road, add_round, fill_group, round_along, Xorshift};
 use crate::paper::{dead_end, valley};
 use crate::table::{Leg, LegTable};
 
-/// Two to five hubs, a depot with a road to each, and behind the hubs less valleys than
+/// Two to five hubs, a depot with a road to each, and behind the hubs fewer valleys than
 /// there are hubs: from the depot the hubs are a level, and each valley is one of its
 /// components. Often a round comes to every station of a valley in one go; it is handed
 /// back as [`super::plant_round`] does.
