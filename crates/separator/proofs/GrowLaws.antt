@@ -1,5 +1,5 @@
 -- Growing along a relation: it gives the least closed set that holds its start, so it needs no more stations than those that it reaches, and no more room than the
--- relation keeps to; and the code, which goes on from the stations that came in last, grows the same. Assumes nothing.
+-- relation keeps to, and what is known to be grown is left out; and the code, which goes on from the stations that came in last, grows the same. Assumes nothing.
 use mathlib.Core.Path.{_≡_, sym, ap, _∙_}
 use mathlib.Core.Logic.{_⊎_, ⊎-elim}
 use mathlib.Core.Bool.{Bool, true, false, not, _&&_, _||_}

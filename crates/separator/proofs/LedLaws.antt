@@ -10,7 +10,7 @@ use Rattle.bitset.specs.Sets.{has, setOf}
 use Rattle.bitset.proofs.BoolLaws.{taut3, and-r}
 use Rattle.bitset.proofs.QuantLaws.{any-ext, any-none, any-or}
 use Rattle.bitset.proofs.HasLaws.{has-zero, has-and, has-or}
-use Rattle.bitset.proofs.SetLaws.{setOf-lt, has-setOf, eq-setOf, none-zero}
+use Rattle.bitset.proofs.SetLaws.{setOf-lt, has-setOf, setOf-ext, eq-setOf, setOf-none}
 use Rattle.bitset.proofs.OnesLaws.{ones-pos, ones-within}
 use Rattle.circuit.specs.Legs.{leg}
 use Rattle.separator.specs.inner.Reach.{entered, LedFrom}
@@ -21,7 +21,7 @@ use Rattle.separator.proofs.RoomLaws.{seen, Leaving, leaving-start, lea
 module _ (t : List ℕ) where
   pub entered-none : entered t 0 ≡ 0
   unfolding entered
-  entered-none = none-zero 64 _ (setOf-lt 64 _) (λ j l. has-setOf 64 _ j l ∙ any-none 64 _ (λ d m. ap (λ (b : Bool). b && leg t d j) (has-zero d)))
+  entered-none = setOf-ext 64 _ _ (λ j l. any-none 64 _ (λ d m. ap (λ (b : Bool). b && leg t d j) (has-zero d))) ∙ setOf-none 64
 
   -- from one of two sets
   pub entered-both : (a b : ℕ) → bitOr (entered t a) (entered t b) ≡ entered t (bitOr a b)

@@ -1,4 +1,4 @@
--- The rule of one level is sound, the levels of a seed part the stations and reach all of them where a round stands, and the code of neighbours, levels, components,
+-- A mark is exactly a walk, the rule of one level is sound, the levels of a seed part the stations and reach all of them where a round stands, and the code of neighbours, levels, components,
 -- marks and the level is exact.
 pub mod ComponentLaws
 pub mod WalkLaws

@@ -12,7 +12,7 @@ use Rattle.bitset.specs.Upto.{row}
 use Rattle.bitset.proofs.BoolLaws.{iff, not-both, and-l}
 use Rattle.bitset.proofs.SetLaws.{setOf-lt, has-setOf, setOf-elim, eq-setOf}
 use Rattle.bitset.proofs.QuantLaws.{any-low}
-use Rattle.bitset.proofs.MachineLaws.{wide}
+use Rattle.bitset.proofs.MachineLaws.{setOf-low}
 use Rattle.bitset.proofs.UptoLaws.{getD-upto, upto-cong}
 use Rattle.circuit.specs.Legs.{leg, col, columns}
 use Rattle.circuit.specs.State.{stray}
@@ -33,14 +33,9 @@ stands-list n t cs ds i j p zero l f = refl
 stands-list n t cs ds i j p (suc c) l f = ap (λ (w : ℕ). joins n t w i j) (f c (le-of-suc-le-suc l))
 
 module _ (n : ℕ) (t : List ℕ) (most : n ≤ 64) (clean : stray n t ≡ false) where
-  -- what is found below 64 is below n
-  setOf-low : (p : ℕ → Bool) → ((k : ℕ) → k < 64 → p k ≡ true → k < n) → setOf n p ≡ setOf 64 p
-  setOf-low p f =
-      eq-setOf 64 (setOf n p) p (wide most (setOf-lt n p)) (λ k l. iff (has (setOf n p) k) (p k) (λ e. setOf-elim n p k e .1) (λ e. has-setOf n p k (f k l e) ∙ e))
-
   col-64 : (j : ℕ) → col n t j ≡ col 64 t j
   unfolding col
-  col-64 j = setOf-low (λ i. leg t i j) (λ i l e. leg-low n t most clean i j l e .0)
+  col-64 j = sym (setOf-low most (λ i. leg t i j) (λ i l e. leg-low n t most clean i j l e .0))
 
   pub columns-64 : columns n t ≡ columns 64 t
   columns-64 = upto-cong 64 _ _ (λ k l. col-64 k)
@@ -50,7 +45,7 @@ module _ (n : ℕ) (t : List ℕ) (most : n ≤ 64) (clean : stray n t ≡ false
   led-64 w i li =
       sym (grow-width n 64 (leg t) (leg t) w (setOf n into) most (setOf-lt n into)
       (λ a b la lb e. let (na, nb) = leg-low n t most clean a b la e in (na, nb, e)) (λ a b la lb e. e))
-      ∙ ap (grow 64 64 (leg t) w) (setOf-low into (λ k l e. leg-low n t most clean i k (lt-of-lt-of-le li most) (and-l (leg t i k) (has w k) e) .1))
+      ∙ ap (grow 64 64 (leg t) w) (sym (setOf-low most into (λ k l e. leg-low n t most clean i k (lt-of-lt-of-le li most) (and-l (leg t i k) (has w k) e) .1)))
     where
       into : ℕ → Bool
       into c = leg t i c && has w c

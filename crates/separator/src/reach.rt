@@ -1,4 +1,4 @@
-// Neighbours, levels from a seed, and components outside a set. A set of stations is a word, bit k for station k.
+// Neighbours, levels from a seed, components outside a set, and what a set leads to. A set of stations is a word, bit k for station k.
 // The words of the neighbours are all that levels and components need of a table, so none of them takes one. What grows along words is promised of these words
 // alone, read as those of 64 stations. The levels are promised for any table t of n stations with `Linked n t nbr`: the words are its neighbours. Of other words
 // nothing is said.

@@ -1,4 +1,4 @@
--- What finding levels and components promises: sets of the n stations of a table t, in arrays of 64 words.
+-- What finding levels and components promises, sets of the n stations of a table t, in arrays of 64 words; and what walking along legs does.
 use mathlib.Core.Path.{_≡_}
 use mathlib.Core.Bool.{true, _&&_}
 use mathlib.Core.List.{List}
