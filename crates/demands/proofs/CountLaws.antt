@@ -19,8 +19,9 @@ use Rattle.filter.specs.declared.cycle.Ran.{Ran}
 use Rattle.filter.specs.Rule.{straySeed}
 use Rattle.filter.specs.Calls.{verdict, gone, halted, unchanged, reopened, byHand, handCall, step, idle, onward, runFrom, runCall}
 use Rattle.filter.proofs.RuleLaws.{says-sound}
+use Rattle.filter.proofs.AfterLaws.{left-le}
 use Rattle.filter.proofs.RemovalLaws as removals
-use Rattle.filter.proofs.RunLaws.{run-good}
+use Rattle.filter.proofs.RunLaws.{run-steps, run-good}
 
 -- ---- removals
 
@@ -38,7 +39,7 @@ byHand-removed w v sub =
     left u = gone w v + legs (w .n) (rowsOf u) ≡ legs (w .n) (rowsOf w)
 
     all : gone w v + legs (w .n) (v .left) ≡ legs (w .n) (rowsOf w)
-    all = removals.left-le w v sub
+    all = left-le w v sub
 
 pub hand-removed : (w : Work) (r : Rule) → handCall w r .removed + legs (w .n) (rowsOf (handCall w r .work)) ≡ legs (w .n) (rowsOf w)
 unfolding handCall
@@ -58,16 +59,9 @@ run-removed w budget =
 
 -- ---- steps
 
-from-most : (b : ℕ) (w : Work) → runFrom b w .steps ≤ b
-unfolding runFrom
-from-most zero w = omega arith
-from-most (suc b) w =
-    cond-elim (λ (r : Ran). r .steps ≤ suc b) (isOpen (w .end)) (onward (step w) (runFrom b (step w .work))) (idle Taken w)
-    (λ _. omega (arith, from-most b (step w .work))) (λ _. omega arith)
-
 pub steps-most : (w : Work) (budget : ℕ) → runCall w budget .steps ≤ budget
 unfolding runCall
-steps-most w budget = cond-elim (λ (r : Ran). r .steps ≤ budget) (bad w) (idle BadWork w) (runFrom budget w) (λ _. omega arith) (λ _. from-most budget w)
+steps-most w budget = cond-elim (λ (r : Ran). r .steps ≤ budget) (bad w) (idle BadWork w) (runFrom budget w) (λ _. omega arith) (λ _. run-steps budget w)
 
 from-spent : (b : ℕ) (w : Work) → runFrom b w .work .end ≡ Open → runFrom b w .steps ≡ b
 unfolding runFrom

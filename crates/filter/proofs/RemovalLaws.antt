@@ -16,20 +16,8 @@ use Rattle.filter.specs.declared.cycle.Ran.{Ran}
 use Rattle.filter.specs.Rule.{ruleAt}
 use Rattle.filter.specs.Calls.{verdict, gone, halted, advanced, cycled, after, step, idle, onward, runFrom}
 use Rattle.circuit.specs.Round.{All}
+use Rattle.filter.proofs.AfterLaws.{after-rows, left-le}
 use Rattle.filter.proofs.CallLaws.{place-sound, step-leads}
-
-pub left-le : (w : Work) (v : Verdict) → Subtable (v .left) (rowsOf w) → gone w v + legs (w .n) (v .left) ≡ legs (w .n) (rowsOf w)
-unfolding gone
-left-le w v sub = omega (arith, legs-le (w .n) (v .left) (rowsOf w) sub)
-
-pub after-rows : (w : Work) (v : Verdict) → rowsOf (after w v) ≡ v .left
-unfolding after
-after-rows w v =
-    cond-elim (λ (u : Work). rowsOf u ≡ v .left) (v .none) (halted w v) (cond (ltb (w .place) (lastPlace (w .n))) (advanced w v mark) (cycled w v mark)) (λ _. refl) (λ _.
-    cond-elim (λ (u : Work). rowsOf u ≡ v .left) (ltb (w .place) (lastPlace (w .n))) (advanced w v mark) (cycled w v mark) (λ _. refl) (λ _. refl))
-  where
-    mark : Bool
-    mark = w .mark || ltb 0 (gone w v)
 
 pub step-removed : (w : Work) → Good w → step w .removed + legs (w .n) (rowsOf (step w .work)) ≡ legs (w .n) (rowsOf w)
 unfolding step

@@ -9,6 +9,7 @@ use Rattle.circuit.specs.Legs.{Subtable}
 use Rattle.circuit.specs.Round.{RoundOf}
 use Rattle.circuit.specs.State.{rowsOf, Good}
 use Rattle.filter.specs.Calls.{runCall}
+use Rattle.filter.specs.Ends.{Ended}
 
 -- of a call that was given v and handed back w, and a class P of rounds: the rules of the paper keep all rounds, so each class
 pub record Leads (P : (ℕ → ℕ) → Type 0) (v w : Work) : Type 0 where
@@ -31,4 +32,4 @@ pub record Budgets (w : Work) (a b : ℕ) : Type 0 where
   -- every leg gone after the smaller is gone after the larger
   pub gone : Subtable (rowsOf (runCall w b .work)) (rowsOf (runCall w a .work))
   -- where the smaller ends stable or none, the larger hands back the same state, steps and removals
-  pub same : ((runCall w a .work .end ≡ ending "stable") ⊎ (runCall w a .work .end ≡ ending "none")) → runCall w b ≡ runCall w a
+  pub same : Ended (runCall w a .work) → runCall w b ≡ runCall w a

@@ -17,7 +17,7 @@ use Rattle.circuit.specs.declared.state.Work.{Work}
 use Rattle.circuit.specs.Card.{number, word}
 use Rattle.circuit.specs.Legs.{legs}
 use Rattle.circuit.specs.State.{isNone, rowsOf, Good}
-use Rattle.circuit.proofs.LegsLaws.{legs-most}
+use Rattle.circuit.proofs.StateLaws.{good-legs}
 use Rattle.circuit.specs.Round.{All}
 use Rattle.sheet.specs.declared.Opened.{Opened}
 use Rattle.sheet.specs.Layout.{Page}
@@ -43,7 +43,7 @@ opened-line-most : (w : Work) → Good w → length (openedLine w) ≤ 22
 unfolding openedLine
 opened-line-most w g =
     let n = decimal-length 1 (w .n) (omega (arith, g .most)) in
-    let l = decimal-length 3 (legs (w .n) (rowsOf w)) (omega (arith, legs-most (w .n) (rowsOf w) (g .most))) in
+    let l = decimal-length 3 (legs (w .n) (rowsOf w)) (omega (arith, good-legs w g)) in
     simp length-append (omega arith)
 
 word-most : (e : End) → length (ascii (word e)) ≤ 6
@@ -56,7 +56,7 @@ unfolding ranLine
 ran-line-most w g =
     let r = runCall w 300000 in
     let steps = decimal-length 5 (r .steps) (omega (arith, steps-most w 300000)) in
-    let removed = decimal-length 3 (r .removed) (omega (arith, run-removed w 300000, legs-most (w .n) (rowsOf w) (g .most))) in
+    let removed = decimal-length 3 (r .removed) (omega (arith, run-removed w 300000, good-legs w g)) in
     let end = word-most (r .work .end) in
     simp length-append (omega arith)
 

@@ -12,7 +12,7 @@ use Rattle.circuit.specs.declared.card.Answer.the-variants.{Taken}
 use Rattle.circuit.specs.declared.verdict.Verdict.{Verdict}
 use Rattle.circuit.specs.Legs.{Subtable}
 use Rattle.circuit.specs.State.{rowsOf, moved, Good}
-use Rattle.circuit.proofs.LegsLaws.{legs-most}
+use Rattle.circuit.proofs.StateLaws.{good-legs}
 use Rattle.circuit.proofs.StateLaws.{stray-row}
 use Rattle.filter.specs.declared.cycle.Cursor.{Cursor}
 use Rattle.filter.specs.Rule.{straySeed, ruleAt}
@@ -118,7 +118,7 @@ add-removed c =
     let v = turn-of (at-rule (taken-at (c .before))) in
     let w = start-of v .args .work in
     let g = v .loop .inv .1 in
-    let low : v .loop .removed + c .before .removals .result ≤ 4096 = omega (arith, run-fits (turn c) g, legs-most (w .n) (rowsOf w) (g .most)) in
+    let low : v .loop .removed + c .before .removals .result ≤ 4032 = omega (arith, run-fits (turn c) g, good-legs w g) in
     search needs
 
 loop-less : tie.Need-loop-less Inv-loop μ-loop
