@@ -2,4 +2,5 @@
 pub mod RefusalLaws
 pub mod CountLaws
 pub mod DemandLaws
+pub mod CeilingLaws
 pub mod ExampleLaws

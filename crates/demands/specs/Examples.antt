@@ -18,6 +18,7 @@ use Rattle.circuit.specs.Check.{checkCall}
 use Rattle.sheet.specs.Open.{openCall}
 use Rattle.sheet.specs.Write.{sheetOf}
 use Rattle.filter.specs.Calls.{sweepCall, chainCall, passCall, runCall}
+use Rattle.filter.specs.Ends.{fullBudget}
 
 -- a leg as the paper writes it: stations from 1
 pub data Leg : Type 0 where
@@ -69,17 +70,13 @@ removes w r ls none =
     isNumber 0 (r .answer) && eqb (r .removed) (length ls) && Bool·beq (isNone (r .work .end)) none
     && all 64 (λ i. eqb (row (rowsOf (r .work)) i) (row (without (w .n) (rowsOf w) (listed ls)) i))
 
--- the program's budget
-unfoldable pub budget : ℕ
-budget = 300000
-
 -- the item holds
 unfoldable pub holds : Example → Bool
 holds (counts s k) = let w = begun s in eqb (legs (w .n) (rowsOf w)) k
 holds (sweeps s ls) = let w = begun s in removes w (sweepCall w) ls false
 holds (chains s ls none) = let w = begun s in removes w (chainCall w) ls none
 holds (passes s seed ls none) = let w = begun s in removes w (passCall w seed) ls none
-holds (runs s steps end) = let r = runCall (begun s) budget in isNumber 0 (r .answer) && eqb (r .steps) steps && isWord end (r .work .end)
+holds (runs s steps end) = let r = runCall (begun s) fullBudget in isNumber 0 (r .answer) && eqb (r .steps) steps && isWord end (r .work .end)
 holds (lists s numbers round) = let r = checkCall (begun s) numbers in isNumber 0 (r .answer) && Bool·beq (r .yes) round
 holds (refuses s k at) = let r = openCall s 64 in isNumber k (r .answer) && eqb (r .at) at
 holds (writes s bytes) = let r = sheetOf (begun s) in eqb (length r) (length bytes) && all (length bytes) (λ i. eqb (row r i) (row bytes i))

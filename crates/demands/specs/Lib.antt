@@ -4,5 +4,6 @@
 -- Calls, Leads; and the first three files here: some 950 lines without imports and blank lines, and 120 for the examples.
 pub mod Sequence
 pub mod Demands
+pub mod Ceiling
 pub mod Examples
 pub mod Definitions

@@ -19,7 +19,7 @@ use Rattle.circuit.proofs.StateLaws.{not-bad, good-legs}
 use Rattle.filter.specs.declared.cycle.Ran.{Ran}
 use Rattle.filter.specs.Rule.{ruleAt}
 use Rattle.filter.specs.Calls.{verdict, gone, cycled, after, step, runFrom, runCall}
-use Rattle.filter.specs.Ends.{Ended, ceiling, enough, EndsWithin}
+use Rattle.filter.specs.Ends.{Ended, ceiling, fullBudget, EndsWithin}
 use Rattle.filter.proofs.AfterLaws.{marks, after-cases, left-le}
 use Rattle.filter.proofs.CallLaws.{place-sound, step-leads}
 use Rattle.filter.proofs.RunLaws.{run-open, run-shut, run-steps, run-same, shut-ended, run-good}
@@ -97,14 +97,14 @@ run-within w g =
 
 -- ---- the ceiling
 
-more : (w : Work) (k m : ℕ) → k ≤ m → EndsWithin w k → EndsWithin w m
-more w k m le e = record { steps = λ b. le-trans (e .steps b) le; ended = λ b h. e .ended b (le-trans le h) }
+pub within-more : (w : Work) (k m : ℕ) → k ≤ m → EndsWithin w k → EndsWithin w m
+within-more w k m le e = record { steps = λ b. le-trans (e .steps b) le; ended = λ b h. e .ended b (le-trans le h) }
 
 -- from place 0 with the mark clear
 pub run-ceiling : (w : Work) → Good w → w .place ≡ 0 → w .mark ≡ false → EndsWithin w (ceiling (w .n) (legs (w .n) (rowsOf w)))
 unfolding due digit
 run-ceiling w g p m =
-    more w (due w) (ceiling (w .n) (legs (w .n) (rowsOf w))) (rw (p, m) (omega (arith, mul-suc (suc (lastPlace (w .n))) (legs (w .n) (rowsOf w))))) (run-within w g)
+    within-more w (due w) (ceiling (w .n) (legs (w .n) (rowsOf w))) (rw (p, m) (omega (arith, mul-suc (suc (lastPlace (w .n))) (legs (w .n) (rowsOf w))))) (run-within w g)
 
 -- from anywhere in the cycle, with the mark set or clear: as with a leg more
 pub run-anywhere : (w : Work) → Good w → EndsWithin w (ceiling (w .n) (legs (w .n) (rowsOf w) + 1))
@@ -112,12 +112,19 @@ unfolding due
 run-anywhere w g =
     let left : suc (lastPlace (w .n)) * (legs (w .n) (rowsOf w) + digit (w .mark)) ≤ suc (lastPlace (w .n)) * (legs (w .n) (rowsOf w) + 1) =
     mul-le-mul-left (suc (lastPlace (w .n))) (omega (arith, digit-lt (w .mark))) in
-    more w (due w) (ceiling (w .n) (legs (w .n) (rowsOf w) + 1)) (omega (arith, left, mul-suc (suc (lastPlace (w .n))) (legs (w .n) (rowsOf w) + 1))) (run-within w g)
+    within-more w (due w) (ceiling (w .n) (legs (w .n) (rowsOf w) + 1)) (omega (arith, left, mul-suc (suc (lastPlace (w .n))) (legs (w .n) (rowsOf w) + 1))) (run-within w g)
+
+-- no good state has a higher ceiling than 64 stations with all legs, and l more
+ceiling-most : (w : Work) → Good w → (l : ℕ) → ceiling (w .n) (legs (w .n) (rowsOf w) + l) ≤ ceiling 64 (4032 + l)
+ceiling-most w g l =
+    let places : w .n + 2 ≤ 66 = omega (arith, g .most) in
+    let cycles : legs (w .n) (rowsOf w) + l + 1 ≤ 4032 + l + 1 = omega (arith, good-legs w g) in
+    mul-le-mul places cycles
+
+-- 64 stations with all legs need most
+pub run-most : (w : Work) → Good w → w .place ≡ 0 → w .mark ≡ false → EndsWithin w 266178
+run-most w g p m = within-more w (ceiling (w .n) (legs (w .n) (rowsOf w))) 266178 (omega (arith, ceiling-most w g 0)) (run-ceiling w g p m)
 
 -- the program's budget is enough
-pub run-enough : (w : Work) → Good w → EndsWithin w enough
-run-enough w g =
-    let places : w .n + 2 ≤ 66 = omega (arith, g .most) in
-    let most : legs (w .n) (rowsOf w) + 1 + 1 ≤ 4034 = omega (arith, good-legs w g) in
-    let all : ceiling (w .n) (legs (w .n) (rowsOf w) + 1) ≤ 66 * 4034 = mul-le-mul places most in
-    more w (ceiling (w .n) (legs (w .n) (rowsOf w) + 1)) enough (omega (arith, all)) (run-anywhere w g)
+pub run-enough : (w : Work) → Good w → (budget : ℕ) → fullBudget ≤ budget → Ended (runCall w budget .work)
+run-enough w g budget h = run-anywhere w g .ended budget (omega (arith, ceiling-most w g 1, h))

@@ -14,9 +14,9 @@ Ended w = (w .end ≡ ending "stable") ⊎ (w .end ≡ ending "none")
 abbrev pub ceiling : ℕ → ℕ → ℕ
 ceiling n legs = (n + 2) * (legs + 1)
 
--- the program's budget; it is enough for every run
-abbrev pub enough : ℕ
-enough = 300000
+-- the program's budget
+abbrev pub fullBudget : ℕ
+fullBudget = 300000
 
 -- no run from w takes more than k steps, and with a budget of at least k its end is stable or none
 pub record EndsWithin (w : Work) (k : ℕ) : Type 0 where

@@ -20,6 +20,9 @@ pub struct Ran {
     pub removed: u32,
 }
 
+// The program's budget. It is enough: with it, or with more, a run from a good state ends stable or none (`run-enough`).
+pub const FULL_BUDGET: u32 = 300000;
+
 // Where the run is in its cycle.
 struct Cursor {
     place: usize,

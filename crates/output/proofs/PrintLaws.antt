@@ -23,6 +23,7 @@ use Rattle.sheet.specs.Open.{openCall}
 use Rattle.sheet.proofs.GrammarLaws.{opened-good}
 use Rattle.filter.specs.declared.cycle.Ran.{Ran}
 use Rattle.filter.specs.Calls.{runCall}
+use Rattle.filter.specs.Ends.{fullBudget}
 use Rattle.filter.proofs.CallLaws.{runCall-leads}
 use Rattle.report.specs.Lines.{linesFrom, text}
 use Rattle.output.specs.Program.{openedLine, ranLine, stationLines, takenText, refusedLine, openedText}
@@ -56,9 +57,9 @@ shown-most w budget g =
     cond-elim (λ (k : ℕ). k ≤ 64) (isNone (v .end)) 0 (v .n) (λ _. zero-le) (λ _. omega (arith, g .most))
 
 -- the text of an opened state that has run
-pub taken-text : (w : Work) (r : Ran) → r ≡ runCall w 300000 → openedLine w ++ ranLine r ++ linesFrom (shown (r .work)) 0 (rowsOf (r .work)) ≡ takenText w
+pub taken-text : (w : Work) (r : Ran) → r ≡ runCall w fullBudget → openedLine w ++ ranLine r ++ linesFrom (shown (r .work)) 0 (rowsOf (r .work)) ≡ takenText w
 unfolding takenText
-taken-text w r e = rw (e, shown-lines (runCall w 300000 .work))
+taken-text w r e = rw (e, shown-lines (runCall w fullBudget .work))
 
 module _ (o : Opened) where
   pub opened-taken : number (o .answer) ≡ 0 → takenText (o .work) ≡ openedText o

@@ -24,6 +24,7 @@ use Rattle.sheet.specs.Layout.{Page}
 use Rattle.sheet.specs.Open.{Got, got, fault, readPage, opened, openCall}
 use Rattle.sheet.proofs.SizeLaws.{first-bytes-suffice}
 use Rattle.filter.specs.Calls.{runCall}
+use Rattle.filter.specs.Ends.{fullBudget}
 use Rattle.filter.proofs.CallLaws.{runCall-leads}
 use Rattle.report.specs.Lines.{text}
 use Rattle.report.proofs.SizeLaws.{text-bound}
@@ -51,12 +52,12 @@ word-most Open = omega arith
 word-most Stable = omega arith
 word-most None = omega arith
 
-ran-line-most : (w : Work) → Good w → length (ranLine (runCall w 300000)) ≤ 37
+ran-line-most : (w : Work) → Good w → length (ranLine (runCall w fullBudget)) ≤ 37
 unfolding ranLine
 ran-line-most w g =
-    let r = runCall w 300000 in
-    let steps = decimal-length 5 (r .steps) (omega (arith, steps-most w 300000)) in
-    let removed = decimal-length 3 (r .removed) (omega (arith, run-removed w 300000, good-legs w g)) in
+    let r = runCall w fullBudget in
+    let steps = decimal-length 5 (r .steps) (omega (arith, steps-most w fullBudget)) in
+    let removed = decimal-length 3 (r .removed) (omega (arith, run-removed w fullBudget, good-legs w g)) in
     let end = word-most (r .work .end) in
     simp length-append (omega arith)
 
@@ -69,7 +70,7 @@ unfolding takenText
 taken-most w g =
     let one = opened-line-most w g in
     let two = ran-line-most w g in
-    let lines = station-lines-most (runCall w 300000 .work) (runCall-leads All w 300000 .keeps g) in
+    let lines = station-lines-most (runCall w fullBudget .work) (runCall-leads All w fullBudget .keeps g) in
     simp length-append (omega arith)
 
 -- ---- a refused sheet

@@ -12,6 +12,7 @@ use Rattle.circuit.specs.Legs.{legs}
 use Rattle.circuit.specs.State.{isNone, rowsOf}
 use Rattle.sheet.specs.Open.{openCall}
 use Rattle.filter.specs.Calls.{runCall}
+use Rattle.filter.specs.Ends.{fullBudget}
 use Rattle.report.specs.Lines.{text}
 
 -- line 1: stations and legs as opened
@@ -28,7 +29,7 @@ stationLines w = cond (isNone (w .end)) [] (text w)
 
 -- of an opened state, run with budget 300,000: two lines, and the station lines
 unfoldable pub takenText : Work → List ℕ
-takenText w = let r = runCall w 300000 in openedLine w ++ ranLine r ++ stationLines (r .work)
+takenText w = let r = runCall w fullBudget in openedLine w ++ ranLine r ++ stationLines (r .work)
 
 -- of a refused sheet: one line, its number, then its place
 unfoldable pub refusedLine : ℕ → ℕ → List ℕ

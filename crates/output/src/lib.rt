@@ -24,10 +24,8 @@ ghost use Rattle.report.specs.Lines.{linesFrom};
 ghost use Rattle.output.specs.Program.{openedLine, ranLine, takenText, refusedLine, programText};
 ghost use Rattle.output.specs.inner.Prints.{shown as Prints·shown};
 
-// What the program opens with and runs with.
+// What the program opens with.
 const LIMIT: usize = 64;
-
-const BUDGET: u32 = 300000;
 
 // Room for the lines before the station lines.
 const HEAD: usize = 128;
@@ -136,7 +134,7 @@ fn print_taken(work: Work, buf: &mut [u8]) -> Filled
     requires { ⌜ Good work ⌝ }
     ensures { λ r. ⌜ Fills (takenText work) (now (buf .entry)) (now (buf .exit)) r ⌝ }
 {
-    let ran = filter::run(work, BUDGET);
+    let ran = filter::run(work, filter::FULL_BUDGET);
     let mut head = [0u8; HEAD];
     let len = put_two_lines(&mut head, work, ran);
     let left = ran.work;

@@ -8,6 +8,7 @@ use Rattle.writer.proofs.WriterLaws.{wrote-front, wrote-part}
 use Rattle.circuit.specs.State.{rowsOf}
 use Rattle.circuit.proofs.FillLaws.{fills-as}
 use Rattle.filter.specs.declared.cycle.Ran.{Ran}
+use Rattle.filter.specs.Ends.{fullBudget}
 use Rattle.report.specs.Lines.{linesFrom}
 use Rattle.output.specs.inner.Prints.{shown}
 use Rattle.output.proofs.PrintLaws.{shown-most, taken-text}
@@ -37,7 +38,7 @@ print-lines-requires c κs =
     let h = c .before .before .before .before .before .before .before .put-two-lines .ensures in
     let ran = c .before .before .before .before .before .before .before .before .before in
     let start = ran .before .before in (
-      rw (c .before .shown .ensures, ran .run .ensures) (shown-most (start .args .work) 300000 (start .pre)),
+      rw (c .before .shown .ensures, ran .run .ensures) (shown-most (start .args .work) fullBudget (start .pre)),
       omega (arith, wrote-part (h .0)),
     )
 
