@@ -1,12 +1,14 @@
 -- The texts as the writers put them together. Assumes nothing.
-use mathlib.Core.Path.{_≡_, sym, ap, _∙_}
-use mathlib.Core.Logic.{⊎-elim}
+use mathlib.Core.Path.{_≡_, sym, ap, ap₂, _∙_}
+use mathlib.Core.Logic.{inl, inr, ⊎-elim}
 use mathlib.Core.Bool.{true, false}
-use mathlib.Core.List.{List, _++_, append-assoc}
+use mathlib.Core.List.{List, [], _++_, append-assoc, append-nil}
 use Prim.Native.Nat.{ℕ, _≤_, zero-le}
+use Prim.Native.String.{String}
 use native.Mathlib.Omega.{arith}
 use lib.Count.{ones}
-use borrow.Author.Tests.{eq-eqb, ne-eqb}
+use lib.Dec.{eqb}
+use borrow.Author.Tests.{eq-eqb, ne-eqb, eqb-true}
 use Rattle.bitset.proofs.BoolLaws.{cases, cond-true, cond-false, cond-elim}
 use Rattle.bitset.specs.Sets.{sum}
 use Rattle.bitset.specs.Upto.{row}
@@ -23,10 +25,11 @@ use Rattle.sheet.specs.Open.{openCall}
 use Rattle.sheet.proofs.GrammarLaws.{opened-good}
 use Rattle.filter.specs.declared.cycle.Ran.{Ran}
 use Rattle.filter.specs.Calls.{runCall}
-use Rattle.filter.specs.Ends.{fullBudget}
+use Rattle.filter.specs.Ends.{Ended, fullBudget}
 use Rattle.filter.proofs.CallLaws.{runCall-leads}
+use Rattle.filter.proofs.CeilingLaws.{run-enough}
 use Rattle.report.specs.Lines.{linesFrom, text}
-use Rattle.output.specs.Program.{openedLine, ranLine, stationLines, takenText, refusedLine, openedText}
+use Rattle.output.specs.Program.{openedLine, stepsLine, ranLine, stationLines, takenText, refusedLine, openedText, programText, Says, refused, none, stable}
 use Rattle.output.specs.inner.Prints.{shown}
 
 regroup : (x a b c : List ℕ) → x ++ (a ++ b ++ c) ≡ x ++ a ++ b ++ c
@@ -42,7 +45,7 @@ opened-line w g k e =
 -- line 2: the two numbers, and the end
 pub ran-line : (r : Ran)
     → (ascii "steps " ++ decimal (r .steps) ++ ascii " removed " ++ decimal (r .removed)) ++ (ascii " end " ++ ascii (word (r .work .end)) ++ ascii "\n") ≡ ranLine r
-unfolding ranLine
+unfolding stepsLine
 ran-line r =
     regroup (ascii "steps " ++ decimal (r .steps) ++ ascii " removed " ++ decimal (r .removed)) (ascii " end ") (ascii (word (r .work .end))) (ascii "\n")
 
@@ -73,3 +76,30 @@ module _ (o : Opened) where
 -- the state of a taken sheet is good
 pub taken-good : (s : List ℕ) → number (openCall s 64 .answer) ≡ 0 → Good (openCall s 64 .work)
 taken-good s e = opened-good s 64 (number-one (openCall s 64 .answer) Taken e)
+
+-- ---- no text says open
+
+module _ (s : List ℕ) where
+  abbrev o : Opened
+  o = openCall s 64
+
+  abbrev r : Ran
+  r = runCall (o .work) fullBudget
+
+  -- the text of a taken sheet, by the word of the end and the lines that follow
+  with-end : number (o .answer) ≡ 0 → (end : String) (lines : List ℕ) → word (r .work .end) ≡ end → stationLines (r .work) ≡ lines
+      → programText s ≡ openedLine (o .work) ++ stepsLine (r .steps) (r .removed) end ++ lines
+  unfolding programText takenText
+  with-end e end lines p q =
+      sym (opened-taken o e) ∙ ap₂ (λ (x : String) (y : List ℕ). openedLine (o .work) ++ stepsLine (r .steps) (r .removed) x ++ y) p q
+
+  ended-says : number (o .answer) ≡ 0 → Ended (r .work) → Says s
+  unfolding stationLines
+  ended-says e (inl h) = stable (o .work) (r .work) (r .steps) (r .removed) (with-end e "stable" (text (r .work)) (ap word h) (cond-false [] (text (r .work)) (ap isNone h)))
+  ended-says e (inr h) = none (o .work) (r .steps) (r .removed) (with-end e "none" [] (ap word h) (cond-true [] (text (r .work)) (ap isNone h)) ∙ append-nil _)
+
+  pub never-open : Says s
+  unfolding programText openedText
+  never-open =
+      ⊎-elim (λ e. let zero = eqb-true (number (o .answer)) 0 e in ended-says zero (run-enough (o .work) (taken-good s zero) fullBudget (omega arith)))
+      (λ e. refused (number (o .answer)) (o .at) (cond-false (takenText (o .work)) (refusedLine (number (o .answer)) (o .at)) e)) (cases (eqb (number (o .answer)) 0))

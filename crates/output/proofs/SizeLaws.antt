@@ -29,7 +29,7 @@ use Rattle.filter.proofs.CallLaws.{runCall-leads}
 use Rattle.report.specs.Lines.{text}
 use Rattle.report.proofs.SizeLaws.{text-bound}
 use Rattle.demands.proofs.CountLaws.{run-removed, steps-most}
-use Rattle.output.specs.Program.{openedLine, ranLine, stationLines, takenText, refusedLine, openedText, programText}
+use Rattle.output.specs.Program.{openedLine, stepsLine, ranLine, stationLines, takenText, refusedLine, openedText, programText}
 use Rattle.output.specs.Sizes.{programMost}
 use Rattle.output.proofs.PrintLaws.{taken-good}
 
@@ -53,7 +53,7 @@ word-most Stable = omega arith
 word-most None = omega arith
 
 ran-line-most : (w : Work) → Good w → length (ranLine (runCall w fullBudget)) ≤ 37
-unfolding ranLine
+unfolding stepsLine
 ran-line-most w g =
     let r = runCall w fullBudget in
     let steps = decimal-length 5 (r .steps) (omega (arith, steps-most w fullBudget)) in

@@ -1,7 +1,9 @@
 -- What the program prints for a sheet.
+use mathlib.Core.Path.{_≡_}
 use mathlib.Core.Bool.{cond}
 use mathlib.Core.List.{List, [], _++_}
 use Prim.Native.Nat.{ℕ}
+use Prim.Native.String.{String}
 use lib.Dec.{eqb}
 use Rattle.writer.specs.Text.{ascii, decimal}
 use Rattle.circuit.specs.declared.state.Work.{Work}
@@ -19,9 +21,12 @@ use Rattle.report.specs.Lines.{text}
 unfoldable pub openedLine : Work → List ℕ
 openedLine w = ascii "stations " ++ decimal (w .n) ++ ascii " legs " ++ decimal (legs (w .n) (rowsOf w)) ++ ascii "\n"
 
--- line 2: steps, legs removed, end
-unfoldable pub ranLine : Ran → List ℕ
-ranLine r = ascii "steps " ++ decimal (r .steps) ++ ascii " removed " ++ decimal (r .removed) ++ ascii " end " ++ ascii (word (r .work .end)) ++ ascii "\n"
+-- line 2: steps, legs removed, the word of the end
+unfoldable pub stepsLine : ℕ → ℕ → String → List ℕ
+stepsLine steps removed end = ascii "steps " ++ decimal steps ++ ascii " removed " ++ decimal removed ++ ascii " end " ++ ascii end ++ ascii "\n"
+
+abbrev pub ranLine : Ran → List ℕ
+ranLine r = stepsLine (r .steps) (r .removed) (word (r .work .end))
 
 -- the station lines, unless the end is none
 unfoldable pub stationLines : Work → List ℕ
@@ -44,3 +49,9 @@ openedText o =
 -- what the program prints for the bytes of a sheet, opened with limit 64
 unfoldable pub programText : List ℕ → List ℕ
 programText s = openedText (openCall s 64)
+
+-- What the text of a sheet says: the sheet is refused; or there is no round; or it shows what is left, and that this is stable. It never says open (W-206).
+pub data Says (s : List ℕ) : Type 0 where
+  refused : (k at : ℕ) → programText s ≡ refusedLine k at → Says s
+  none : (w : Work) (steps removed : ℕ) → programText s ≡ openedLine w ++ stepsLine steps removed "none" → Says s
+  stable : (w left : Work) (steps removed : ℕ) → programText s ≡ openedLine w ++ stepsLine steps removed "stable" ++ text left → Says s
