@@ -1,3 +1,4 @@
 -- Laws of a work state in words.
 pub mod WordsLaws
 pub mod SequenceLaws
+pub mod EndLaws

@@ -17,7 +17,7 @@ use Rattle.circuit.specs.declared.card.Answer.{Answer}
 use Rattle.circuit.specs.declared.state.Work.{Work}
 use Rattle.circuit.specs.declared.card.End.{End}
 use Rattle.circuit.specs.declared.card.End.the-variants.{Open, Stable, None}
-use Rattle.circuit.specs.State.{rowsOf, bad}
+use Rattle.circuit.specs.State.{rowsOf, state, blank, bad}
 use Rattle.circuit.specs.Card.{endCode, endOf}
 use Rattle.loungeegret.specs.Words.{stateWords, outOfRange, loaded, fields, stored, storedIn}
 use Rattle.loungeegret.specs.Results.{refuses, wordsAfter}
@@ -99,6 +99,16 @@ module _ (w : Work) (whole : length (rowsOf w) ≡ 64) where
         end-most (w .end),
         end-of-number (w .end),
       ))
+
+  -- the last of its words is the end
+  pub stored-end : (rest : List ℕ) → getD (stored w ++ rest) 68 0 ≡ endCode (w .end)
+  unfolding stored
+  stored-end rest = rw (append-assoc (rowsOf w) (fields w) rest) (past 4 (rowsOf w) (fields w ++ rest) whole)
+
+-- the table of the words has 64 of them
+pub loaded-long : (s : List ℕ) → stateWords ≤ length s → length (rowsOf (loaded s)) ≡ 64
+unfolding loaded
+loaded-long s h = cond-elim (λ (w : Work). length (rowsOf w) ≡ 64) (outOfRange s) blank (state (getD s 64 0) (take 64 s) (getD s 65 0) (getD s 66 0) (eqb (getD s 67 0) 1) (endOf (getD s 68 0))) (λ _. refl) (λ _. length-take-le 64 s (omega arith))
 
 -- what was loaded is stored again
 pub stored-loaded : (s : List ℕ) → stateWords ≤ length s → outOfRange s ≡ false → storedIn s (loaded s) ≡ s
