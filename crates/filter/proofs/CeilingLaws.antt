@@ -24,11 +24,18 @@ use Rattle.filter.proofs.AfterLaws.{marks, after-cases, left-le}
 use Rattle.filter.proofs.CallLaws.{place-sound, step-leads}
 use Rattle.filter.proofs.RunLaws.{run-open, run-shut, run-steps, run-same, shut-ended, run-good}
 
+-- the places of the cycle, and the legs that stand
+abbrev places : Work → ℕ
+places w = suc (lastPlace (w .n))
+
+abbrev standing : Work → ℕ
+standing w = legs (w .n) (rowsOf w)
+
 -- ---- what is due falls with each step
 
 -- the places left in this cycle, and a cycle for each leg, and one for a mark that is set
 due : Work → ℕ
-due w = (suc (lastPlace (w .n)) - w .place) + suc (lastPlace (w .n)) * (legs (w .n) (rowsOf w) + digit (w .mark))
+due w = (places w - w .place) + places w * (standing w + digit (w .mark))
 
 -- a leg that goes pays for the mark
 pays : (m : Bool) (g l k : ℕ) → g + l ≡ k → l + digit (m || ltb 0 g) ≤ k + digit m
@@ -52,8 +59,8 @@ after-less w v p sub =
     Less : Work → Type 0
     Less u = isOpen (u .end) ≡ true → due u < due w
 
-    paid : (m : Bool) → marks w v ≡ m → legs (w .n) (v .left) + digit m ≤ legs (w .n) (rowsOf w) + digit (w .mark)
-    paid m e = rw (sym e) (pays (w .mark) (gone w v) (legs (w .n) (v .left)) (legs (w .n) (rowsOf w)) (left-le w v sub))
+    paid : (m : Bool) → marks w v ≡ m → legs (w .n) (v .left) + digit m ≤ standing w + digit (w .mark)
+    paid m e = rw (sym e) (pays (w .mark) (gone w v) (legs (w .n) (v .left)) (standing w) (left-le w v sub))
 
     cycles : (m : Bool) → marks w v ≡ m → Less (cycled w v m)
     cycles true e o = cycle-falls (lastPlace (w .n)) (w .place) (legs (w .n) (v .left) + 0) _ (omega (arith, paid true e)) p
@@ -97,33 +104,31 @@ run-within w g =
 
 -- ---- the ceiling
 
-pub within-more : (w : Work) (k m : ℕ) → k ≤ m → EndsWithin w k → EndsWithin w m
+within-more : (w : Work) (k m : ℕ) → k ≤ m → EndsWithin w k → EndsWithin w m
 within-more w k m le e = record { steps = λ b. le-trans (e .steps b) le; ended = λ b h. e .ended b (le-trans le h) }
 
 -- from place 0 with the mark clear
 pub run-ceiling : (w : Work) → Good w → w .place ≡ 0 → w .mark ≡ false → EndsWithin w (ceiling (w .n) (legs (w .n) (rowsOf w)))
 unfolding due digit
-run-ceiling w g p m =
-    within-more w (due w) (ceiling (w .n) (legs (w .n) (rowsOf w))) (rw (p, m) (omega (arith, mul-suc (suc (lastPlace (w .n))) (legs (w .n) (rowsOf w))))) (run-within w g)
+run-ceiling w g p m = within-more w (due w) (ceiling (w .n) (standing w)) (rw (p, m) (omega (arith, mul-suc (places w) (standing w)))) (run-within w g)
 
--- from anywhere in the cycle, with the mark set or clear: as with a leg more
+-- from any place, with the mark set or clear: as with a leg more
 pub run-anywhere : (w : Work) → Good w → EndsWithin w (ceiling (w .n) (legs (w .n) (rowsOf w) + 1))
 unfolding due
 run-anywhere w g =
-    let left : suc (lastPlace (w .n)) * (legs (w .n) (rowsOf w) + digit (w .mark)) ≤ suc (lastPlace (w .n)) * (legs (w .n) (rowsOf w) + 1) =
-    mul-le-mul-left (suc (lastPlace (w .n))) (omega (arith, digit-lt (w .mark))) in
-    within-more w (due w) (ceiling (w .n) (legs (w .n) (rowsOf w) + 1)) (omega (arith, left, mul-suc (suc (lastPlace (w .n))) (legs (w .n) (rowsOf w) + 1))) (run-within w g)
+    let one : standing w + digit (w .mark) ≤ standing w + 1 = omega (arith, digit-lt (w .mark)) in
+    within-more w (due w) (ceiling (w .n) (standing w + 1)) (omega (arith, mul-le-mul-left (places w) one, mul-suc (places w) (standing w + 1))) (run-within w g)
 
--- no good state has a higher ceiling than 64 stations with all legs, and l more
+-- ---- the ceiling of 64 stations with all legs
+
 ceiling-most : (w : Work) → Good w → (l : ℕ) → ceiling (w .n) (legs (w .n) (rowsOf w) + l) ≤ ceiling 64 (4032 + l)
 ceiling-most w g l =
-    let places : w .n + 2 ≤ 66 = omega (arith, g .most) in
-    let cycles : legs (w .n) (rowsOf w) + l + 1 ≤ 4032 + l + 1 = omega (arith, good-legs w g) in
-    mul-le-mul places cycles
+    let few : w .n + 2 ≤ 66 = omega (arith, g .most) in
+    let cycles : standing w + l + 1 ≤ 4032 + l + 1 = omega (arith, good-legs w g) in
+    mul-le-mul few cycles
 
--- 64 stations with all legs need most
 pub run-most : (w : Work) → Good w → w .place ≡ 0 → w .mark ≡ false → EndsWithin w 266178
-run-most w g p m = within-more w (ceiling (w .n) (legs (w .n) (rowsOf w))) 266178 (omega (arith, ceiling-most w g 0)) (run-ceiling w g p m)
+run-most w g p m = within-more w (ceiling (w .n) (standing w)) 266178 (omega (arith, ceiling-most w g 0)) (run-ceiling w g p m)
 
 -- the program's budget is enough
 pub run-enough : (w : Work) → Good w → (budget : ℕ) → fullBudget ≤ budget → Ended (runCall w budget .work)

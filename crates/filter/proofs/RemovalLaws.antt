@@ -1,20 +1,16 @@
 -- Removals are legs before less legs after, for a step and for a whole run. Assumes nothing.
-use mathlib.Core.Path.{_≡_, refl, ap, _∙_, subst}
-use mathlib.Core.Bool.{Bool, cond, _||_}
+use mathlib.Core.Path.{_≡_, ap, _∙_, subst}
 use mathlib.Core.List.{List}
 use Prim.Native.Nat.{ℕ, zero, suc, _+_}
 use native.Mathlib.Omega.{arith}
-use lib.Dec.{ltb}
 use Rattle.bitset.proofs.BoolLaws.{cond-elim}
 use Rattle.circuit.specs.declared.state.Work.{Work}
-use Rattle.circuit.specs.declared.verdict.Verdict.{Verdict}
 use Rattle.circuit.specs.declared.card.Answer.the-variants.{Taken}
-use Rattle.circuit.specs.Legs.{legs, Subtable}
-use Rattle.circuit.specs.State.{isOpen, rowsOf, lastPlace, Good}
-use Rattle.circuit.proofs.LegsLaws.{legs-le}
+use Rattle.circuit.specs.Legs.{legs}
+use Rattle.circuit.specs.State.{isOpen, rowsOf, Good}
 use Rattle.filter.specs.declared.cycle.Ran.{Ran}
 use Rattle.filter.specs.Rule.{ruleAt}
-use Rattle.filter.specs.Calls.{verdict, gone, halted, advanced, cycled, after, step, idle, onward, runFrom}
+use Rattle.filter.specs.Calls.{verdict, gone, step, idle, onward, runFrom}
 use Rattle.circuit.specs.Round.{All}
 use Rattle.filter.proofs.AfterLaws.{after-rows, left-le}
 use Rattle.filter.proofs.CallLaws.{place-sound, step-leads}

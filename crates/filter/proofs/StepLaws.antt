@@ -1,6 +1,6 @@
 -- A step of the run by cases, and the run's loop, as the code goes through them. Assumes nothing.
 use mathlib.Core.Path.{_≡_, refl, sym, ap, ap₂, _∙_, subst}
-use mathlib.Core.Bool.{Bool, true, false, cond, _||_}
+use mathlib.Core.Bool.{Bool, true, false, cond}
 use Prim.Native.Nat.{ℕ, _+_, _≤_}
 use native.Mathlib.Nat.{add-zero, le-dest}
 use native.Mathlib.Numerals.{add-one}
@@ -18,6 +18,7 @@ use Rattle.circuit.specs.State.{isOpen, rowsOf, moved, lastPlace, Good}
 use Rattle.filter.specs.Rule.{ruleAt}
 use Rattle.circuit.specs.Round.{All}
 use Rattle.filter.specs.Calls.{verdict, gone, halted, advanced, cycled, after, step, runFrom}
+use Rattle.filter.proofs.AfterLaws.{marks}
 use Rattle.filter.proofs.CallLaws.{step-leads}
 use Rattle.filter.proofs.RemovalLaws.{run-removed}
 use Rattle.filter.proofs.RunLaws.{both, run-open, run-add, run-same}
@@ -25,27 +26,24 @@ use Rattle.filter.proofs.RunLaws.{both, run-open, run-add, run-same}
 -- ---- the state after a step
 
 module _ (w : Work) (v : Verdict) where
-  mark : Bool
-  mark = w .mark || ltb 0 (gone w v)
-
   on : Work
-  on = cond (ltb (w .place) (lastPlace (w .n))) (advanced w v mark) (cycled w v mark)
+  on = cond (ltb (w .place) (lastPlace (w .n))) (advanced w v (marks w v)) (cycled w v (marks w v))
 
   pub after-none : v .none ≡ true → halted w v ≡ after w v
-  unfolding after mark on
+  unfolding after on
   after-none e = sym (cond-true (halted w v) on e)
 
-  module _ (m : Bool) (is : m ≡ w .mark || ltb 0 (gone w v)) (e : v .none ≡ false) where
+  module _ (m : Bool) (is : m ≡ marks w v) (e : v .none ≡ false) where
     pub after-next : ltb (w .place) (lastPlace (w .n)) ≡ true → moved w (v .left) (w .place + 1) m Open ≡ after w v
-    unfolding after mark on
+    unfolding after on
     after-next l =
-        ap₂ (λ (k : ℕ) (b : Bool). moved w (v .left) k b Open) (add-one (w .place)) is ∙ sym (cond-true (advanced w v mark) (cycled w v mark) l)
+        ap₂ (λ (k : ℕ) (b : Bool). moved w (v .left) k b Open) (add-one (w .place)) is ∙ sym (cond-true (advanced w v (marks w v)) (cycled w v (marks w v)) l)
         ∙ sym (cond-false (halted w v) on e)
 
     pub after-last : ltb (w .place) (lastPlace (w .n)) ≡ false → moved w (v .left) 0 false (cond m Open Stable) ≡ after w v
-    unfolding after mark on
+    unfolding after on
     after-last l =
-        ap (λ (b : Bool). moved w (v .left) 0 false (cond b Open Stable)) is ∙ sym (cond-false (advanced w v mark) (cycled w v mark) l)
+        ap (λ (b : Bool). moved w (v .left) 0 false (cond b Open Stable)) is ∙ sym (cond-false (advanced w v (marks w v)) (cycled w v (marks w v)) l)
         ∙ sym (cond-false (halted w v) on e)
 
 pub step-is : (w : Work) (v : Verdict) (u : Work) (r : ℕ) → v ≡ verdict w (ruleAt (w .place)) → r ≡ gone w v → u ≡ after w v → record { answer = Taken; work = u; removed = r } ≡ step w
