@@ -71,6 +71,12 @@ enum {
 };
 
 /*
+ * The budget that always suffices, which is the program's: after a run with it, or with more, that is taken, the end is
+ * LOUNGEEGRET_STABLE or LOUNGEEGRET_NONE, whatever place and mark the state had (proved: run-ended).
+ */
+enum { LOUNGEEGRET_FULL_BUDGET = 300000 };
+
+/*
  * Opens a sheet with a separator limit. The state is written in each case, a refused opening writes the blank one: no stations, no
  * legs, limit 0, place 0, mark clear, open. `*place` is the place that goes with the number: the sheet's length for 1, the
  * offending byte for 2, 3 and 5, the field's first byte for 4, otherwise 0.
@@ -105,8 +111,10 @@ uint32_t loungeegret_pass(uint64_t *state, size_t state_length, size_t seed, uin
  * `*steps` is the number of steps that it took and `*removed` the number of legs that it removed, both 0 where it is refused. How
  * it ended is in state[LOUNGEEGRET_END].
  *
- * Which budget: 300000 is the program's and is meant to be enough for 64 stations. With a smaller one a run goes in short turns:
- * where the end is still LOUNGEEGRET_OPEN the budget is used up, and the same call again goes on from there.
+ * Which budget: LOUNGEEGRET_FULL_BUDGET always suffices. No run from an opened sheet with n stations and L legs takes more than
+ * (n + 2) * (L + 1) steps, 266178 at most, and none from any other state with L legs more than (n + 2) * (L + 2) (proved:
+ * run-ceiling, run-anywhere). With a smaller budget a run goes in short turns: where the end is still LOUNGEEGRET_OPEN the budget is
+ * used up, and the same call again goes on from there.
  */
 uint32_t loungeegret_run(uint64_t *state, size_t state_length, uint32_t budget,
                          uint32_t *steps, uint32_t *removed);
@@ -138,9 +146,9 @@ uint32_t loungeegret_write(const uint64_t *state, size_t state_length,
                            uint8_t *buf, size_t buf_length, size_t *length);
 
 /*
- * The whole program in one call: opens the sheet with limit 64, runs with budget 300000, and writes what the program prints to the
- * start of the buffer: two lines and, unless the end is none, the station lines; or the line `refused 3 at 1`. Bytes after the
- * text keep their contents. `*length` is its length. Answers LOUNGEEGRET_TAKEN also for a refused sheet, whose text says so, and
+ * The whole program in one call: opens the sheet with limit 64, runs with LOUNGEEGRET_FULL_BUDGET, and writes what the program
+ * prints to the start of the buffer: two lines and, unless the end is none, the station lines; or the line `refused 3 at 1`. The
+ * text never says that the end is open (never-open). Bytes after the text keep their contents. `*length` is its length. Answers LOUNGEEGRET_TAKEN also for a refused sheet, whose text says so, and
  * LOUNGEEGRET_NO_ROOM, with length 0 and nothing written to the buffer, where the buffer is shorter than the text.
  */
 uint32_t loungeegret_print(const uint8_t *sheet, size_t sheet_length,

@@ -65,8 +65,8 @@ static int prune(const uint8_t *sheet, size_t sheet_length, const char *struck)
         printf("refused %u at %zu\n", (unsigned)number, place);
         return 1;
     }
-    /* Sweeps, chain steps and passes, until nothing changes; each can also be called by hand. */
-    if (loungeegret_run(state, LOUNGEEGRET_STATE_WORDS, 300000, &steps, &removed) != LOUNGEEGRET_TAKEN)
+    /* Sweeps, chain steps and passes; each can also be called by hand. This budget always suffices: the end is stable or none. */
+    if (loungeegret_run(state, LOUNGEEGRET_STATE_WORDS, LOUNGEEGRET_FULL_BUDGET, &steps, &removed) != LOUNGEEGRET_TAKEN)
         return fail("the run is refused");
     puts(words[state[LOUNGEEGRET_END]]);
     if (state[LOUNGEEGRET_END] == LOUNGEEGRET_NONE)

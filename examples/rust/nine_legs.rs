@@ -46,6 +46,7 @@ const STATE_WORDS: usize = 69;
 const SHEET_MOST: u64 = 1153;
 const TEXT_MOST: usize = 11776;
 const WRITTEN_MOST: usize = 577;
+const FULL_BUDGET: u32 = 300_000;
 const WORDS: [&str; 3] = ["open", "stable", "none"];
 
 #[rustfmt::skip]
@@ -97,10 +98,10 @@ fn prune(sheet: &[u8], out: &mut impl Write, struck: Option<OsString>) -> io::Re
         writeln!(out, "refused {number} at {place}")?;
         return Ok(1);
     }
-    // Sweeps, chain steps and passes, until nothing changes; each can also be called by hand.
+    // Sweeps, chain steps and passes; each can also be called by hand. This budget always suffices: the end is stable or none.
     let number = unsafe {
         let words = state.as_mut_ptr();
-        loungeegret_run(words, state.len(), 300000, &mut steps, &mut removed)
+        loungeegret_run(words, state.len(), FULL_BUDGET, &mut steps, &mut removed)
     };
     if number != TAKEN {
         return Err(io::Error::other("the run is refused"));
