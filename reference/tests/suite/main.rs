@@ -2,6 +2,7 @@
 //! against the plain ones; the comparison that other calls go through.
 
 mod catalogue;
+mod ceiling;
 mod chains;
 mod choices;
 mod compare;
