@@ -39,6 +39,9 @@ fn fast_calls_differ_nowhere() {
     assert!(written.next_set > 10_000 && written.empty_set > 500);
     let valleys = &counts.valleys;
     assert!(valleys.struck > 20 && valleys.none > 15 && valleys.runs > 10);
+    let ceilings = &counts.ceilings;
+    assert!(ceilings.allowed > 2_000 && ceilings.amid > 1_000 && ceilings.just > 1_000);
+    assert!(ceilings.nearest.ratio() > 0.3 && ceilings.nearest.ratio() <= 1.0);
     assert_eq!(counts.missing(1_000), None);
     assert_eq!(counts.missing(2_000), Some("valleys"));
 }

@@ -3,6 +3,7 @@
 
 mod catalogue;
 mod ceiling;
+mod ceiling_faults;
 mod chains;
 mod choices;
 mod compare;
