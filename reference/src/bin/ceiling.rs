@@ -1,0 +1,250 @@
+//! How near runs come to their ceiling (W-206), as Markdown: on made-up tables, on all
+//! tables of few stations, and on tables that a search makes worse leg by leg.
+//!
+//! Seeds and counts are fixed, so that every machine prints the same.
+
+use std::thread;
+use std::time::Instant;
+
+use reference::ceiling::Nearness;
+use reference::gen::{any_table, one_way_valleys, wide_islands, Family, Xorshift, SHAPES};
+use reference::state::{Rows, LARGEST_LIMIT};
+use reference::{fast, End, LegTable, WorkState};
+
+fn main() {
+    let start = Instant::now();
+    println!("# Whole runs beside their ceilings\n");
+    println!("All start at place 0 with the mark clear and limit {LARGEST_LIMIT}.");
+    print_made_up();
+    println!("\n## All tables of few stations\n");
+    print_worst(&(2..=5).flat_map(small_tables).collect::<Vec<_>>());
+    println!("\n## Tables made worse leg by leg\n");
+    print_worst(&SEARCHES.into_iter().flat_map(searched).collect::<Vec<_>>());
+    eprintln!("ceiling: {:.1} seconds", start.elapsed().as_secs_f64());
+}
+
+/// A whole run.
+#[derive(Clone, Copy)]
+struct Whole {
+    opened: WorkState,
+    near: Nearness,
+    end: End,
+}
+
+impl Whole {
+    fn of(n: usize, rows: Rows) -> Whole {
+        let opened = WorkState {
+            n: n as u64,
+            rows,
+            limit: LARGEST_LIMIT,
+            ..WorkState::BLANK
+        };
+        let ran = fast::run(opened, u32::MAX);
+        Whole {
+            opened,
+            near: Nearness::of(&opened, &ran),
+            end: ran.state.end,
+        }
+    }
+
+    fn on(table: &LegTable) -> Whole {
+        Whole::of(table.n(), table.rows())
+    }
+}
+
+/// By what a run is worse than another.
+#[derive(Clone, Copy)]
+enum Goal {
+    Ratio,
+    Steps,
+}
+
+impl Goal {
+    const BOTH: [Goal; 2] = [Goal::Ratio, Goal::Steps];
+
+    fn word(self) -> &'static str {
+        match self {
+            Goal::Ratio => "ratio",
+            Goal::Steps => "steps",
+        }
+    }
+
+    fn score(self, whole: &Whole) -> (u32, Nearness) {
+        match self {
+            Goal::Ratio => (0, whole.near),
+            Goal::Steps => (whole.near.steps, whole.near),
+        }
+    }
+
+    fn worse(self, one: Whole, other: Whole) -> Whole {
+        if self.score(&other) > self.score(&one) {
+            other
+        } else {
+            one
+        }
+    }
+}
+
+/// The worst of many tables.
+struct Worst {
+    tables: u32,
+    goal: Goal,
+    whole: Whole,
+}
+
+fn print_worst(worst: &[Worst]) {
+    println!("| stations | tables | worst by | ratio | steps | ceiling | legs | end |");
+    println!("|---|---|---|---|---|---|---|---|");
+    for Worst {
+        tables,
+        goal,
+        whole,
+    } in worst
+    {
+        let Nearness { steps, ceiling } = whole.near;
+        let (n, legs) = (whole.opened.n, whole.opened.legs());
+        let (by, ratio, end) = (goal.word(), whole.near.ratio(), whole.end.word());
+        println!("| {n} | {tables} | {by} | {ratio:.3} | {steps} | {ceiling} | {legs} | {end} |");
+    }
+    println!();
+    for Worst { goal, whole, .. } in worst {
+        let (n, by) = (whole.opened.n, goal.word());
+        println!("- {n}, by {by}: `{}`", rows_in_words(&whole.opened.table()));
+    }
+}
+
+/// For each station the next ones.
+fn rows_in_words(table: &LegTable) -> String {
+    let row = |i: usize| {
+        let next = table.successors(i).iter().map(usize::to_string);
+        format!("{i}: {}", next.collect::<Vec<_>>().join(" "))
+    };
+    table.stations().map(row).collect::<Vec<_>>().join(", ")
+}
+
+/// Stations of made-up tables, and how many tables of each kind.
+const SIZES: [(usize, usize); 4] = [(8, 4_000), (16, 2_000), (32, 500), (64, 100)];
+
+/// Tables of one kind under its name.
+type Kind = (String, Box<dyn Fn(&mut Xorshift, usize) -> LegTable>);
+
+fn kinds() -> Vec<Kind> {
+    let mut kinds: Vec<Kind> = Vec::new();
+    for shape in SHAPES {
+        let name = format!("benchmark: {}", shape.name);
+        kinds.push((name, Box::new(move |rng, n| shape.table(rng, n))));
+    }
+    for family in Family::FOR_PASSES.into_iter().chain(Family::FOR_CHAINS) {
+        let name = format!("{family:?}");
+        kinds.push((name, Box::new(move |rng, n| family.table(rng, n))));
+    }
+    let valleys = |rng: &mut Xorshift, n: usize| one_way_valleys(rng, n).0;
+    kinds.push(("one_way_valleys".to_string(), Box::new(valleys)));
+    kinds.push(("wide_islands".to_string(), Box::new(wide_islands)));
+    kinds
+}
+
+fn print_made_up() {
+    println!("\n## Made-up tables\n");
+    println!("The largest ratio, with the steps and the ceiling of that run.\n");
+    let heads = SIZES.map(|(n, tables)| format!("{n} stations, {tables} tables"));
+    println!("| kind | {} |", heads.join(" | "));
+    println!("|---{}|", "|---".repeat(SIZES.len()));
+    for (name, table) in kinds() {
+        let cells = SIZES.map(|(n, tables)| {
+            let mut rng = Xorshift::new(n as u64);
+            let runs = (0..tables).map(|_| Whole::on(&table(&mut rng, n)).near);
+            let near = runs.max().unwrap_or_default();
+            let Nearness { steps, ceiling } = near;
+            format!("{:.3}: {steps} of {ceiling}", near.ratio())
+        });
+        println!("| {name} | {} |", cells.join(" | "));
+    }
+}
+
+/// The rows of a table by the bits of a number, one for each leg.
+fn rows_of(n: usize, code: u32) -> Rows {
+    let mut rows = [0; 64];
+    let others = n - 1;
+    for (at, row) in rows[..n].iter_mut().enumerate() {
+        let word = u64::from(code) >> (at * others) & ((1 << others) - 1);
+        let below = word & ((1 << at) - 1);
+        *row = below | (word ^ below) << 1;
+    }
+    rows
+}
+
+/// The worst of all tables of n stations, by each goal.
+fn small_tables(n: usize) -> [Worst; 2] {
+    let tables = 1 << (n * (n - 1));
+    let mut worst = Goal::BOTH.map(|goal| Worst {
+        tables,
+        goal,
+        whole: Whole::of(n, [0; 64]),
+    });
+    for code in 0..tables {
+        let whole = Whole::of(n, rows_of(n, code));
+        for worst in &mut worst {
+            worst.whole = worst.goal.worse(worst.whole, whole);
+        }
+    }
+    worst
+}
+
+/// Stations of searched tables, and how many tables each search tries.
+const SEARCHES: [(usize, u32); 4] = [
+    (6, 4_000_000),
+    (8, 3_000_000),
+    (12, 1_000_000),
+    (16, 700_000),
+];
+
+/// So many tables in turn that are no worse than the one before end a way.
+const PATIENCE: u32 = 4_000;
+
+/// The worst table that a search by each goal finds.
+fn searched((n, tables): (usize, u32)) -> [Worst; 2] {
+    thread::scope(|scope| {
+        let searches = Goal::BOTH.map(|goal| (goal, scope.spawn(move || search(n, tables, goal))));
+        searches.map(|(goal, search)| Worst {
+            tables,
+            goal,
+            whole: search.join().expect("a search that ends"),
+        })
+    })
+}
+
+/// Ways from several tables, each from table to table that is not less bad.
+fn search(n: usize, tables: u32, goal: Goal) -> Whole {
+    let mut rng = Xorshift::new(n as u64);
+    let mut worst = Whole::of(n, [0; 64]);
+    let mut left = tables;
+    while left > 0 {
+        let mut here = Whole::on(&any_table(&mut rng, n));
+        let mut idle = 0;
+        while idle < PATIENCE && left > 0 {
+            left -= 1;
+            idle += 1;
+            let next = Whole::of(n, flipped(&mut rng, n, here.opened.rows));
+            let (score, next_score) = (goal.score(&here), goal.score(&next));
+            if next_score > score {
+                idle = 0;
+            }
+            if next_score >= score {
+                here = next;
+            }
+        }
+        worst = goal.worse(worst, here);
+    }
+    worst
+}
+
+/// The rows with one leg more or less, sometimes with two or three.
+fn flipped(rng: &mut Xorshift, n: usize, mut rows: Rows) -> Rows {
+    for _ in 0..rng.pick(&[1, 1, 2, 3]) {
+        let from = rng.below(n);
+        let to = (from + rng.between(1, n - 1)) % n;
+        rows[from] ^= 1 << to;
+    }
+    rows
+}
