@@ -14,7 +14,8 @@ use reference::{fast, End, LegTable, WorkState};
 fn main() {
     let start = Instant::now();
     println!("# Whole runs beside their ceilings\n");
-    println!("All start at place 0 with the mark clear and limit {LARGEST_LIMIT}.");
+    println!("All start at place 0 with the mark clear.");
+    println!("\n## Made-up tables\n");
     print_made_up();
     println!("\n## All tables of few stations\n");
     print_worst(&(2..=5).flat_map(small_tables).collect::<Vec<_>>());
@@ -32,13 +33,7 @@ struct Whole {
 }
 
 impl Whole {
-    fn of(n: usize, rows: Rows) -> Whole {
-        let opened = WorkState {
-            n: n as u64,
-            rows,
-            limit: LARGEST_LIMIT,
-            ..WorkState::BLANK
-        };
+    fn from(opened: WorkState) -> Whole {
         let ran = fast::run(opened, u32::MAX);
         Whole {
             opened,
@@ -47,8 +42,13 @@ impl Whole {
         }
     }
 
-    fn on(table: &LegTable) -> Whole {
-        Whole::of(table.n(), table.rows())
+    fn of(n: usize, rows: Rows, limit: u64) -> Whole {
+        Whole::from(WorkState {
+            n: n as u64,
+            rows,
+            limit,
+            ..WorkState::BLANK
+        })
     }
 }
 
@@ -60,8 +60,6 @@ enum Goal {
 }
 
 impl Goal {
-    const BOTH: [Goal; 2] = [Goal::Ratio, Goal::Steps];
-
     fn word(self) -> &'static str {
         match self {
             Goal::Ratio => "ratio",
@@ -85,6 +83,15 @@ impl Goal {
     }
 }
 
+/// What is sought, by limits: that of the program, and low ones, as runs that look at
+/// fewer levels may come nearer.
+const SOUGHT: [(u64, Goal); 4] = [
+    (LARGEST_LIMIT, Goal::Ratio),
+    (LARGEST_LIMIT, Goal::Steps),
+    (2, Goal::Ratio),
+    (1, Goal::Ratio),
+];
+
 /// The worst of many tables.
 struct Worst {
     tables: u32,
@@ -93,23 +100,26 @@ struct Worst {
 }
 
 fn print_worst(worst: &[Worst]) {
-    println!("| stations | tables | worst by | ratio | steps | ceiling | legs | end |");
-    println!("|---|---|---|---|---|---|---|---|");
+    println!("| stations | limit | tables | worst by | ratio | steps | ceiling | legs | end |");
+    println!("|---|---|---|---|---|---|---|---|---|");
     for Worst {
         tables,
         goal,
         whole,
     } in worst
     {
+        let WorkState { n, limit, .. } = whole.opened;
+        let (by, ratio) = (goal.word(), whole.near.ratio());
         let Nearness { steps, ceiling } = whole.near;
-        let (n, legs) = (whole.opened.n, whole.opened.legs());
-        let (by, ratio, end) = (goal.word(), whole.near.ratio(), whole.end.word());
-        println!("| {n} | {tables} | {by} | {ratio:.3} | {steps} | {ceiling} | {legs} | {end} |");
+        let (legs, end) = (whole.opened.legs(), whole.end.word());
+        print!("| {n} | {limit} | {tables} | {by} | {ratio:.3} |");
+        println!(" {steps} | {ceiling} | {legs} | {end} |");
     }
     println!();
     for Worst { goal, whole, .. } in worst {
-        let (n, by) = (whole.opened.n, goal.word());
-        println!("- {n}, by {by}: `{}`", rows_in_words(&whole.opened.table()));
+        let (WorkState { n, limit, .. }, by) = (whole.opened, goal.word());
+        let rows = rows_in_words(&whole.opened.table());
+        println!("- {n}, limit {limit}, by {by}: `{rows}`");
     }
 }
 
@@ -145,15 +155,16 @@ fn kinds() -> Vec<Kind> {
 }
 
 fn print_made_up() {
-    println!("\n## Made-up tables\n");
-    println!("The largest ratio, with the steps and the ceiling of that run.\n");
+    print!("The largest ratio, with the steps and the ceiling of that run. ");
+    println!("Limit {LARGEST_LIMIT}.\n");
     let heads = SIZES.map(|(n, tables)| format!("{n} stations, {tables} tables"));
     println!("| kind | {} |", heads.join(" | "));
     println!("|---{}|", "|---".repeat(SIZES.len()));
     for (name, table) in kinds() {
         let cells = SIZES.map(|(n, tables)| {
             let mut rng = Xorshift::new(n as u64);
-            let runs = (0..tables).map(|_| Whole::on(&table(&mut rng, n)).near);
+            let mut made = || WorkState::opened(&table(&mut rng, n), LARGEST_LIMIT);
+            let runs = (0..tables).map(|_| Whole::from(made()).near);
             let near = runs.max().unwrap_or_default();
             let Nearness { steps, ceiling } = near;
             format!("{:.3}: {steps} of {ceiling}", near.ratio())
@@ -174,27 +185,38 @@ fn rows_of(n: usize, code: u32) -> Rows {
     rows
 }
 
-/// The worst of all tables of n stations, by each goal.
-fn small_tables(n: usize) -> [Worst; 2] {
+/// Seeks by several goals at the same time.
+fn seek(
+    tables: u32,
+    sought: &[(u64, Goal)],
+    worst: impl Fn(u64, Goal) -> Whole + Sync,
+) -> Vec<Worst> {
+    let worst = &worst;
+    thread::scope(|scope| {
+        let spawn = |&(limit, goal)| (goal, scope.spawn(move || worst(limit, goal)));
+        let seeking: Vec<_> = sought.iter().map(spawn).collect();
+        let found = seeking.into_iter().map(|(goal, thread)| Worst {
+            tables,
+            goal,
+            whole: thread.join().expect("a table"),
+        });
+        found.collect()
+    })
+}
+
+fn small_tables(n: usize) -> Vec<Worst> {
     let tables = 1 << (n * (n - 1));
-    let mut worst = Goal::BOTH.map(|goal| Worst {
-        tables,
-        goal,
-        whole: Whole::of(n, [0; 64]),
-    });
-    for code in 0..tables {
-        let whole = Whole::of(n, rows_of(n, code));
-        for worst in &mut worst {
-            worst.whole = worst.goal.worse(worst.whole, whole);
-        }
-    }
-    worst
+    seek(tables, &SOUGHT, |limit, goal| {
+        let runs = (0..tables).map(|code| Whole::of(n, rows_of(n, code), limit));
+        let worst = runs.reduce(|one, other| goal.worse(one, other));
+        worst.expect("a table")
+    })
 }
 
 /// Stations of searched tables, and how many tables each search tries.
 const SEARCHES: [(usize, u32); 4] = [
-    (6, 4_000_000),
-    (8, 3_000_000),
+    (6, 2_000_000),
+    (8, 2_000_000),
     (12, 1_000_000),
     (16, 700_000),
 ];
@@ -202,30 +224,24 @@ const SEARCHES: [(usize, u32); 4] = [
 /// So many tables in turn that are no worse than the one before end a way.
 const PATIENCE: u32 = 4_000;
 
-/// The worst table that a search by each goal finds.
-fn searched((n, tables): (usize, u32)) -> [Worst; 2] {
-    thread::scope(|scope| {
-        let searches = Goal::BOTH.map(|goal| (goal, scope.spawn(move || search(n, tables, goal))));
-        searches.map(|(goal, search)| Worst {
-            tables,
-            goal,
-            whole: search.join().expect("a search that ends"),
-        })
+fn searched((n, tables): (usize, u32)) -> Vec<Worst> {
+    seek(tables, &SOUGHT[..3], |limit, goal| {
+        search(n, limit, goal, tables)
     })
 }
 
 /// Ways from several tables, each from table to table that is not less bad.
-fn search(n: usize, tables: u32, goal: Goal) -> Whole {
+fn search(n: usize, limit: u64, goal: Goal, tables: u32) -> Whole {
     let mut rng = Xorshift::new(n as u64);
-    let mut worst = Whole::of(n, [0; 64]);
+    let mut worst = Whole::of(n, [0; 64], limit);
     let mut left = tables;
     while left > 0 {
-        let mut here = Whole::on(&any_table(&mut rng, n));
+        let mut here = Whole::from(WorkState::opened(&any_table(&mut rng, n), limit));
         let mut idle = 0;
         while idle < PATIENCE && left > 0 {
             left -= 1;
             idle += 1;
-            let next = Whole::of(n, flipped(&mut rng, n, here.opened.rows));
+            let next = Whole::of(n, flipped(&mut rng, n, here.opened.rows), limit);
             let (score, next_score) = (goal.score(&here), goal.score(&next));
             if next_score > score {
                 idle = 0;
