@@ -66,7 +66,7 @@ fn random_with_round(rng: &mut Xorshift, n: usize, density: usize) -> LegTable {
 /// Stations in a line: legs one or two places on and one place back, and the
 /// round that goes up by the odd places and down by the even ones. A run
 /// strikes few legs in each of many cycles.
-fn band(n: usize) -> LegTable {
+pub fn band(n: usize) -> LegTable {
     let mut table = LegTable::empty(n);
     for i in 1..n {
         table.add(i, i + 1);

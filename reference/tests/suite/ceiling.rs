@@ -1,7 +1,8 @@
 //! No run takes more steps than its ceiling (W-206).
 
 use reference::ceiling::{ceiling, in_mid_cycle, Nearness};
-use reference::gen::{all_tables, any_table, one_way_valleys, ring, Family, Sheet, Xorshift};
+use reference::gen::{all_tables, any_table, band, long_runs, one_way_valleys, ring};
+use reference::gen::{Family, Sheet, Xorshift};
 use reference::program::{self, BUDGET};
 use reference::state::last_place;
 use reference::{Calls, End, Fast, LegTable, Plain, WorkState};
@@ -80,11 +81,21 @@ fn nearer_by_the_ratio_and_then_by_the_steps() {
 
 #[test]
 fn all_tables_of_two_to_four_stations() {
-    for (n, limit) in [(2, 64), (3, 64), (4, 64), (2, 1), (3, 1), (4, 1)] {
-        for table in all_tables(n) {
-            let state = WorkState::opened(&table, limit);
-            let plain = hold(&Plain, state);
-            assert_eq!(plain, hold(&Fast, state));
+    // Stations, the nearest run with limit 64, and with limit 1.
+    let expected = [
+        (2, (4, 12), (4, 12)),
+        (3, (10, 25), (10, 25)),
+        (4, (12, 36), (18, 48)),
+    ];
+    for (n, highest_limit, lowest_limit) in expected {
+        for (limit, (steps, ceiling)) in [(64, highest_limit), (1, lowest_limit)] {
+            let runs = all_tables(n).map(|table| {
+                let state = WorkState::opened(&table, limit);
+                let near = hold(&Plain, state);
+                assert_eq!(near, hold(&Fast, state));
+                near
+            });
+            assert_eq!(runs.max(), Some(Nearness { steps, ceiling }));
         }
     }
 }
@@ -147,6 +158,21 @@ fn made_up_tables_of_64_stations() {
             hold(&Plain, state);
         }
     }
+}
+
+#[test]
+fn the_longest_runs_that_were_found() {
+    let of_few = [(4, 12), (10, 25), (12, 36), (28, 84), (32, 104)];
+    let of_more = [(80, 190), (154, 350), (270, 630)];
+    let expected = of_few.into_iter().chain(of_more);
+    for (table, (steps, ceiling)) in long_runs().iter().zip(expected) {
+        for calls in BOTH {
+            let near = hold(calls, opened(table));
+            assert_eq!(near, Nearness { steps, ceiling });
+        }
+        hold_at_every_place(&Fast, table, 64);
+    }
+    assert_eq!(hold(&Fast, opened(&band(64))).steps, 1_188);
 }
 
 /// On an ended state there is nothing to do, so that any budget is enough.

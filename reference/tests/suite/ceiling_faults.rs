@@ -1,6 +1,7 @@
 //! The watch over ceilings finds runs that never end, with no other calls beside them.
 
 use std::cell::Cell;
+use std::io::{self, Write};
 
 use reference::ceiling::ceiling;
 use reference::compare::{ceilings, compare_sheet, watch_sheet};
@@ -8,11 +9,13 @@ use reference::gen::{all_tables, Xorshift};
 use reference::hand::Handled;
 use reference::list::Checked;
 use reference::run::Ran;
+use reference::script::play;
 use reference::sheet::Opened;
 use reference::state::last_place;
-use reference::{program, Calls, End, Fast, Filled, LegTable, Plain, WorkState};
+use reference::{program, vectors, Calls, End, Fast, Filled, LegTable, Plain, WorkState};
 
 use crate::opened;
+use crate::scripts::answers;
 
 #[derive(Clone, Copy, Debug, PartialEq, Eq)]
 enum Fault {
@@ -190,6 +193,37 @@ fn the_watch_finds_nothing_in_sound_calls() {
         let alone = watch_sheet(&Fast, 1, index).unwrap_or_else(|found| panic!("{found}"));
         assert_eq!(Some(alone), compare_sheet(&Fast, 1, index).ok());
     }
+}
+
+/// Fails at the first byte that is not the expected one.
+struct Expecting<'a> {
+    rest: &'a [u8],
+}
+
+impl Write for Expecting<'_> {
+    fn write(&mut self, bytes: &[u8]) -> io::Result<usize> {
+        let rest = self.rest.strip_prefix(bytes);
+        self.rest = rest.ok_or(io::ErrorKind::InvalidData)?;
+        Ok(bytes.len())
+    }
+
+    fn flush(&mut self) -> io::Result<()> {
+        Ok(())
+    }
+}
+
+#[test]
+fn the_vectors_tell_each_fault_of_runs() {
+    let script = vectors::ceilings();
+    let sound = answers(&Fast, script.bytes());
+    let told = |calls: &Faulty| {
+        let mut out = Expecting { rest: &sound };
+        play(calls, script.bytes(), &mut out).is_err()
+    };
+    for fault in FAULTS {
+        assert!(told(&Faulty::new(fault, Part::Runs)), "{fault:?}");
+    }
+    assert!(!told(&Faulty::new(Fault::MarkKept, Part::Prints)));
 }
 
 /// Each break by itself: one step too many, and open with just the ceiling.
