@@ -1,6 +1,7 @@
 //! How long a run can take: the ceiling of W-206.
 
 use std::cmp::Ordering;
+use std::fmt;
 
 use crate::run::Ran;
 use crate::state::{last_place, WorkState};
@@ -37,6 +38,13 @@ impl Nearness {
 
     pub fn ratio(&self) -> f64 {
         f64::from(self.steps) / f64::from(self.ceiling)
+    }
+}
+
+impl fmt::Display for Nearness {
+    fn fmt(&self, out: &mut fmt::Formatter) -> fmt::Result {
+        let (steps, ceiling, ratio) = (self.steps, self.ceiling, self.ratio());
+        write!(out, "{ratio:.3} ({steps} of {ceiling} steps)")
     }
 }
 

@@ -155,8 +155,7 @@ fn kinds() -> Vec<Kind> {
 }
 
 fn print_made_up() {
-    print!("The largest ratio, with the steps and the ceiling of that run. ");
-    println!("Limit {LARGEST_LIMIT}.\n");
+    println!("The largest ratio of steps to the ceiling, with limit {LARGEST_LIMIT}.\n");
     let heads = SIZES.map(|(n, tables)| format!("{n} stations, {tables} tables"));
     println!("| kind | {} |", heads.join(" | "));
     println!("|---{}|", "|---".repeat(SIZES.len()));
@@ -165,9 +164,7 @@ fn print_made_up() {
             let mut rng = Xorshift::new(n as u64);
             let mut made = || WorkState::opened(&table(&mut rng, n), LARGEST_LIMIT);
             let runs = (0..tables).map(|_| Whole::from(made()).near);
-            let near = runs.max().unwrap_or_default();
-            let Nearness { steps, ceiling } = near;
-            format!("{:.3}: {steps} of {ceiling}", near.ratio())
+            runs.max().unwrap_or_default().to_string()
         });
         println!("| {name} | {} |", cells.join(" | "));
     }

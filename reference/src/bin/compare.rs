@@ -157,10 +157,11 @@ fn tell(seed: u64, sheets: u64, counts: &Counts) {
         "  written sheets: {} round trips; records: {} without field, {} fixed, {} with a next set, {} with an empty one",
         written.round_trips, written.no_field, written.fixed, written.next_set, written.empty_set
     );
-    let (ceilings, nearest) = (&counts.ceilings, &counts.ceilings.nearest);
+    let ceilings = &counts.ceilings;
+    let (from_start, from_mid_cycle) = (&ceilings.from_start, &ceilings.from_mid_cycle);
     println!(
-        "  ceilings: {} open runs with a budget of at least their ceiling, {} of them from mid-cycle, {} with just the ceiling; the nearest took {} of {} steps, {:.3}",
-        ceilings.allowed, ceilings.amid, ceilings.just, nearest.steps, nearest.ceiling, nearest.ratio()
+        "  ceilings: {} runs with a budget of at least their ceiling, {} of them from mid-cycle, {} with just the ceiling, {} with that of the program; largest ratio {}, from mid-cycle {}",
+        ceilings.runs(), from_mid_cycle.count, ceilings.just, ceilings.program, from_start.nearest, from_mid_cycle.nearest
     );
 }
 

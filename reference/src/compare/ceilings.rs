@@ -29,37 +29,64 @@ pub fn says_open(text: &[u8]) -> bool {
 /// Runs from open states whose budget is at least their ceiling.
 #[derive(Clone, Debug, Default, PartialEq, Eq)]
 pub struct CeilingCounts {
-    pub allowed: u64,
-    /// Those from a state in mid-cycle.
-    pub amid: u64,
+    /// Those from the start of a cycle.
+    pub from_start: CountedRuns,
+    pub from_mid_cycle: CountedRuns,
     /// Those with a budget of just the ceiling.
     pub just: u64,
-    /// The one with the largest ratio of its steps to its ceiling.
+    /// Those with the budget of the program.
+    pub program: u64,
+}
+
+/// Runs, and the one of them with the largest ratio of its steps to its ceiling.
+#[derive(Clone, Debug, Default, PartialEq, Eq)]
+pub struct CountedRuns {
+    pub count: u64,
     pub nearest: Nearness,
+}
+
+impl CountedRuns {
+    fn add(&mut self, other: &CountedRuns) {
+        self.count += other.count;
+        self.nearest = self.nearest.max(other.nearest);
+    }
 }
 
 impl CeilingCounts {
     pub fn add(&mut self, other: &CeilingCounts) {
-        self.allowed += other.allowed;
-        self.amid += other.amid;
+        self.from_start.add(&other.from_start);
+        self.from_mid_cycle.add(&other.from_mid_cycle);
         self.just += other.just;
-        self.nearest = self.nearest.max(other.nearest);
+        self.program += other.program;
+    }
+
+    pub fn runs(&self) -> u64 {
+        self.from_start.count + self.from_mid_cycle.count
     }
 
     /// Is there a run of each kind?
     pub fn complete(&self) -> bool {
-        self.amid > 0 && self.just > 0 && self.allowed > self.amid
+        let (from_start, from_mid_cycle) = (self.from_start.count, self.from_mid_cycle.count);
+        ![from_start, from_mid_cycle, self.just, self.program].contains(&0)
     }
 
     /// Notes a run that was not refused.
     pub fn note(&mut self, before: &WorkState, budget: u32, ran: &Ran) {
         let ceiling = ceiling(before);
-        if before.end == End::Open && budget >= ceiling {
-            self.allowed += 1;
-            self.amid += u64::from(in_mid_cycle(before));
-            self.just += u64::from(budget == ceiling);
-            self.nearest = self.nearest.max(Nearness::of(before, ran));
+        if before.end != End::Open || budget < ceiling {
+            return;
         }
+        let runs = if in_mid_cycle(before) {
+            &mut self.from_mid_cycle
+        } else {
+            &mut self.from_start
+        };
+        runs.add(&CountedRuns {
+            count: 1,
+            nearest: Nearness::of(before, ran),
+        });
+        self.just += u64::from(budget == ceiling);
+        self.program += u64::from(budget == BUDGET);
     }
 }
 
