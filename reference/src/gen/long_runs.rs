@@ -1,5 +1,5 @@
 //! Tables with long runs: of those that `bin/ceiling.rs` comes to, the ones whose runs
-//! have the most steps for their number of stations.
+//! have the most steps for their number of stations, with limit 64.
 
 use crate::table::LegTable;
 
