@@ -2,6 +2,7 @@
 //! answer is compared whole, and what holds of all sequences is tried as well.
 
 mod call;
+pub mod ceilings;
 mod difference;
 mod draw;
 mod islands;
@@ -15,6 +16,7 @@ use std::fmt::Display;
 use std::panic::{catch_unwind, AssertUnwindSafe};
 
 use self::call::{Answer, Call};
+use self::ceilings::CeilingCounts;
 use self::difference::Step;
 use self::made::{Kind, Known};
 use self::neighbours::NeighbourCounts;
@@ -53,6 +55,7 @@ pub struct Counts {
     pub neighbours: NeighbourCounts,
     pub valleys: ValleyCounts,
     pub written: WrittenCounts,
+    pub ceilings: CeilingCounts,
 }
 
 /// Chain steps by hand that were not refused, by what they did.
@@ -104,6 +107,7 @@ impl Counts {
         self.neighbours.add(&other.neighbours);
         self.valleys.add(&other.valleys);
         self.written.add(&other.written);
+        self.ceilings.add(&other.ceilings);
     }
 
     /// What is still missing of the calls that so many sheets have.
@@ -114,6 +118,8 @@ impl Counts {
             Some("valleys")
         } else if !self.written.complete() {
             Some("written sheets")
+        } else if !self.ceilings.complete() {
+            Some("ceilings")
         } else {
             None
         }
@@ -139,10 +145,29 @@ impl Counts {
 
 /// Compares on one sheet. Seed and index alone decide on all that is done.
 pub fn compare_sheet(tested: &dyn Calls, seed: u64, index: u64) -> Found<Counts> {
+    go_through(tested, seed, index, Judge::Others)
+}
+
+/// Makes the same calls with no others beside them: what holds of all calls has to tell
+/// alone that one is wrong.
+pub fn watch_sheet(tested: &dyn Calls, seed: u64, index: u64) -> Found<Counts> {
+    go_through(tested, seed, index, Judge::Watches)
+}
+
+/// Who says that an answer is wrong.
+#[derive(Clone, Copy, Debug, PartialEq, Eq)]
+enum Judge {
+    /// The fast and the plain answers, and the watches.
+    Others,
+    Watches,
+}
+
+fn go_through(tested: &dyn Calls, seed: u64, index: u64, judge: Judge) -> Found<Counts> {
     let mut rng = Xorshift::new(seed.rotate_left(32) ^ index);
     let made = Made::new(&mut rng, index);
     let mut session = Session {
         tested,
+        judge,
         rng,
         made,
         state: WorkState::BLANK,
@@ -163,6 +188,7 @@ pub fn compare_sheet(tested: &dyn Calls, seed: u64, index: u64) -> Found<Counts>
 
 struct Session<'a> {
     tested: &'a dyn Calls,
+    judge: Judge,
     rng: Xorshift,
     made: Made,
     state: WorkState,
@@ -216,11 +242,16 @@ impl Session<'_> {
             let call = Call::Print { length };
             self.steps.push(Step::Call(call.clone()));
             let answer = self.answer_under_test(&call)?;
-            if answer != Answer::printed(&text, length) {
-                return Err(self.difference("the fast answer differs", &answer));
+            if self.judge == Judge::Others {
+                if answer != Answer::printed(&text, length) {
+                    return Err(self.difference("the fast answer differs", &answer));
+                }
+                if !same {
+                    return Err(self.difference("the plain answer differs", &answer));
+                }
             }
-            if !same {
-                return Err(self.difference("the plain answer differs", &answer));
+            if ceilings::says_open(answer.written()) {
+                return Err(self.difference("the program's text says open", &answer));
             }
             self.counts.note(&answer);
             self.counts.plain += u64::from(with_plain);
@@ -228,12 +259,13 @@ impl Session<'_> {
         Ok(())
     }
 
-    /// Writes and a chain step on the opened state, on some tables passes and runs
-    /// too, then calls in any order, the whole run, and more calls on the ended state:
-    /// some of any kind, then reports and writes into buffers of every length that
-    /// matters.
+    /// Writes, runs with their ceiling and a chain step on the opened state, on some
+    /// tables passes and other runs too, then calls in any order, the whole run, and more
+    /// calls on the ended state: some of any kind, then reports and writes into buffers of
+    /// every length that matters.
     fn sequence(&mut self) -> Found<()> {
         self.writes()?;
+        self.ceilings_and_back()?;
         self.chain_and_back()?;
         match self.made.kind {
             Kind::Any => {}
@@ -360,12 +392,15 @@ impl Session<'_> {
         let with_plain = self.plain_takes_part(&call);
         self.steps.push(Step::Call(call.clone()));
         let answer = self.answer_under_test(&call)?;
-        if answer != self.make(&call, &Fast) {
-            return Err(self.difference("the fast answer differs", &answer));
+        if self.judge == Judge::Others {
+            if answer != self.make(&call, &Fast) {
+                return Err(self.difference("the fast answer differs", &answer));
+            }
+            if with_plain && answer != self.make(&call, &Plain) {
+                return Err(self.difference("the plain answer differs", &answer));
+            }
         }
-        if with_plain && answer != self.make(&call, &Plain) {
-            return Err(self.difference("the plain answer differs", &answer));
-        }
+        self.hold_to_ceiling(&call, &answer)?;
         self.count_taken(&call, &answer);
         if let Some(state) = answer.state() {
             if let Some(fault) = self.watch.fault(state) {
@@ -392,6 +427,7 @@ impl Session<'_> {
             }
             (Call::Run { budget }, Answer::Ran(ran)) => {
                 counts.neighbours.note_run(state, *budget, ran);
+                counts.ceilings.note(state, *budget, ran);
             }
             _ => {}
         }

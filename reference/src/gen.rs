@@ -1,5 +1,7 @@
 //! Tables and sheets made from a seed, the same ones on every machine.
 
+mod long_runs;
+mod shapes;
 mod valleys;
 
 use std::ops::RangeInclusive;
@@ -7,6 +9,8 @@ use std::ops::RangeInclusive;
 use crate::card::{self, Number};
 use crate::table::{Leg, LegTable};
 
+pub use self::long_runs::long_runs;
+pub use self::shapes::{band, Shape, SHAPES};
 pub use self::valleys::{long_dead_end, long_valley, no_way_left, one_way_valleys};
 pub use self::valleys::{road_with_gap, through_one_station, way_outside, way_struck_before};
 

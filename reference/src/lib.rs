@@ -8,6 +8,7 @@
 
 pub mod calls;
 pub mod card;
+pub mod ceiling;
 pub mod chain;
 pub mod choices;
 pub mod compare;
@@ -35,6 +36,7 @@ pub mod words;
 pub mod written;
 
 pub use calls::{Calls, Fast, Plain};
+pub use ceiling::ceiling;
 pub use chain::chain;
 pub use filled::Filled;
 pub use hand::Handled;

@@ -2,8 +2,8 @@
 //!
 //! `compare [--seed S] [--sheets COUNT]` goes through that many made-up sheets,
 //! `compare --seed S --sheet K` through a single one of them again. A difference
-//! ends it with status 1, and so does, after many sheets, a count of neighbours or of
-//! written sheets that is still 0, or too few tables of valleys.
+//! ends it with status 1, and so does, after many sheets, a count of neighbours, of
+//! written sheets or of ceilings that is still 0, or too few tables of valleys.
 
 use std::process::ExitCode;
 use std::str::FromStr;
@@ -156,6 +156,12 @@ fn tell(seed: u64, sheets: u64, counts: &Counts) {
     println!(
         "  written sheets: {} round trips; records: {} without field, {} fixed, {} with a next set, {} with an empty one",
         written.round_trips, written.no_field, written.fixed, written.next_set, written.empty_set
+    );
+    let ceilings = &counts.ceilings;
+    let (from_start, from_mid_cycle) = (&ceilings.from_start, &ceilings.from_mid_cycle);
+    println!(
+        "  ceilings: {} runs with a budget of at least their ceiling, {} of them from mid-cycle, {} with just the ceiling, {} with that of the program; largest ratio {}, from mid-cycle {}",
+        ceilings.runs(), from_mid_cycle.count, ceilings.just, ceilings.program, from_start.nearest, from_mid_cycle.nearest
     );
 }
 

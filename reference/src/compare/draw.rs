@@ -225,6 +225,18 @@ pub fn moved(rng: &mut Xorshift, state: &WorkState) -> WorkState {
     }
 }
 
+/// The same table in mid-cycle, open.
+pub fn amid(rng: &mut Xorshift, state: &WorkState) -> WorkState {
+    let mark = rng.percent(50);
+    let lowest = usize::from(!mark);
+    WorkState {
+        place: rng.between(lowest, last_place(state.n) as usize) as u64,
+        mark,
+        end: End::Open,
+        ..*state
+    }
+}
+
 /// The same table at any place, with any mark, end and limit.
 pub fn elsewhere(rng: &mut Xorshift, state: &WorkState) -> WorkState {
     let limit = good_limit(rng);

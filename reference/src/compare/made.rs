@@ -2,7 +2,8 @@
 
 use super::valleys::{self, TellingTable};
 use crate::card::Number;
-use crate::gen::{self, damaged, plant_round, random, wide_islands, Family, Sheet, Xorshift};
+use crate::gen::{self, damaged, long_runs, plant_round, random, wide_islands};
+use crate::gen::{Family, Sheet, Xorshift};
 use crate::table::{Leg, LegTable};
 
 pub struct Made {
@@ -44,6 +45,7 @@ impl Made {
             _ if rng.percent(10) => random_sheet(rng),
             _ if rng.percent(8) => sheet_of_islands(rng),
             _ if rng.percent(6) => striking_sheet(rng),
+            _ if rng.percent(2) => sheet_of_a_long_run(rng),
             _ => sheet_of_table(rng),
         }
     }
@@ -90,6 +92,19 @@ fn striking_sheet(rng: &mut Xorshift) -> Made {
         known: Known::Table(table),
         round: None,
         kind: Kind::Striking,
+    }
+}
+
+/// One of the tables whose runs come nearest to their ceilings, under its own names:
+/// with others the run may be short.
+fn sheet_of_a_long_run(rng: &mut Xorshift) -> Made {
+    let tables = long_runs();
+    let table = tables[rng.below(tables.len())].clone();
+    Made {
+        bytes: any_sheet(rng, &table).bytes(),
+        known: Known::Table(table),
+        round: None,
+        kind: Kind::Any,
     }
 }
 

@@ -1,6 +1,7 @@
 //! The script of test vectors, section by section.
 
 mod bad_states;
+mod ceilings;
 mod chains;
 mod islands;
 mod lines;
@@ -33,6 +34,7 @@ pub fn script() -> Script {
     neighbours::add(&mut script);
     written::add(&mut script);
     valleys::add(&mut script);
+    ceilings::add(&mut script);
     script
 }
 
@@ -40,6 +42,13 @@ pub fn script() -> Script {
 pub fn valleys() -> Script {
     let mut script = Script::default();
     valleys::add(&mut script);
+    script
+}
+
+/// The section of ceilings alone.
+pub fn ceilings() -> Script {
+    let mut script = Script::default();
+    ceilings::add(&mut script);
     script
 }
 

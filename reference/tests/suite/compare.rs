@@ -2,6 +2,7 @@
 
 use std::collections::BTreeSet;
 
+use reference::compare::ceilings::CeilingCounts;
 use reference::compare::{compare_sheet, Counts};
 use reference::filled::fill;
 use reference::gen::{any_table, Sheet, Xorshift};
@@ -39,8 +40,28 @@ fn fast_calls_differ_nowhere() {
     assert!(written.next_set > 10_000 && written.empty_set > 500);
     let valleys = &counts.valleys;
     assert!(valleys.struck > 20 && valleys.none > 15 && valleys.runs > 10);
+    let ceilings = &counts.ceilings;
+    assert!(ceilings.from_start.count > 800 && ceilings.from_mid_cycle.count > 800);
+    assert!(ceilings.just > 800 && ceilings.program > 200);
+    assert!(ceilings.from_start.nearest.ratio() > 0.35);
     assert_eq!(counts.missing(1_000), None);
     assert_eq!(counts.missing(2_000), Some("valleys"));
+    for ceilings in without_one_count(&counts.ceilings) {
+        let counts = Counts {
+            ceilings,
+            ..counts.clone()
+        };
+        assert_eq!(counts.missing(1_000), Some("ceilings"));
+    }
+}
+
+fn without_one_count(ceilings: &CeilingCounts) -> [CeilingCounts; 4] {
+    let mut without = [(); 4].map(|()| ceilings.clone());
+    without[0].from_start.count = 0;
+    without[1].from_mid_cycle.count = 0;
+    without[2].just = 0;
+    without[3].program = 0;
+    without
 }
 
 #[test]

@@ -2,6 +2,8 @@
 //! against the plain ones; the comparison that other calls go through.
 
 mod catalogue;
+mod ceiling;
+mod ceiling_faults;
 mod chains;
 mod choices;
 mod compare;

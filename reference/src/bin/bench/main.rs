@@ -8,13 +8,15 @@ mod share;
 mod sides;
 mod times;
 
+use reference::gen::SHAPES;
+
 const SIZES: [usize; 4] = [8, 16, 32, 64];
 const TABLES: usize = 6;
 const REPETITIONS: usize = 15;
 const LIMIT: usize = 64;
 
 fn main() {
-    let shapes = shapes::ALL.map(shapes::Shape::inputs);
+    let shapes = SHAPES.map(shapes::Inputs::of);
     let results = times::Timed::ALL.map(|call| times::Results::of(call, &shapes));
     let shares: Vec<_> = shapes.iter().map(share::Share::of).collect();
     let components: Vec<_> = shapes.iter().map(components::Row::of).collect();
