@@ -74,7 +74,9 @@ enum {
  * The budget that always suffices, which is the program's: after a run with it, or with more, that is taken, the end is
  * LOUNGEEGRET_STABLE or LOUNGEEGRET_NONE, whatever place and mark the state had (proved: run-ended).
  */
-enum { LOUNGEEGRET_FULL_BUDGET = 300000 };
+enum {
+    LOUNGEEGRET_FULL_BUDGET = 300000
+};
 
 /*
  * Opens a sheet with a separator limit. The state is written in each case, a refused opening writes the blank one: no stations, no

@@ -10,7 +10,7 @@ use crate::card;
 use crate::filled::fill;
 use crate::gen::{any_table, ring, wide_islands, Family, Sheet, Xorshift};
 use crate::paper::{NINE_LEGS, NINE_LEGS_OUTPUT};
-use crate::program::{self, PRINT_MOST};
+use crate::program::{self, BUDGET, PRINT_MOST};
 use crate::state::{End, Rows, WorkState};
 use crate::table::{stations_of, word_of, LegTable};
 use crate::words::{to_words, Words, END, MARK, STATE_WORDS};
@@ -176,6 +176,11 @@ fn header_has(constant: &str, value: usize) -> bool {
 fn the_header_tells_the_room_for_every_text_and_sheet() {
     assert!(header_has("PRINT_MOST", PRINT_MOST));
     assert!(header_has("WRITTEN_MOST", WRITTEN_MOST));
+}
+
+#[test]
+fn the_header_tells_the_budget_that_always_suffices() {
+    assert!(header_has("FULL_BUDGET", BUDGET as usize));
 }
 
 /// What is written into a buffer of any length, of a state of any end.
