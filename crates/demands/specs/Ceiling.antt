@@ -23,6 +23,6 @@ pub record Ceiling : Type 0 where
   pub anywhere : (w : Work) → Good w → EndsWithin w (ceiling (w .n) (legs (w .n) (rowsOf w) + 1))
   -- so the program's budget is enough for every good state
   pub enough : (w : Work) → Good w → (budget : ℕ) → fullBudget ≤ budget → Ended (runCall w budget .work)
-  -- and after any list of calls from an opened sheet
+  -- and so for every sheet that is opened, after any list of calls, the empty one too
   pub sequence : (sheet : List ℕ) (limit : ℕ) → openCall sheet limit .answer ≡ card 0 → (cs : List Call) (budget : ℕ) → fullBudget ≤ budget
       → Ended (runCall (afterAll (openCall sheet limit .work) cs) budget .work)

@@ -25,6 +25,7 @@ openedLine w = ascii "stations " ++ decimal (w .n) ++ ascii " legs " ++ decimal 
 unfoldable pub stepsLine : ℕ → ℕ → String → List ℕ
 stepsLine steps removed end = ascii "steps " ++ decimal steps ++ ascii " removed " ++ decimal removed ++ ascii " end " ++ ascii end ++ ascii "\n"
 
+-- that of a run
 abbrev pub ranLine : Ran → List ℕ
 ranLine r = stepsLine (r .steps) (r .removed) (word (r .work .end))
 
@@ -50,7 +51,8 @@ openedText o =
 unfoldable pub programText : List ℕ → List ℕ
 programText s = openedText (openCall s 64)
 
--- What the text of a sheet says: the sheet is refused; or there is no round; or it shows what is left, and that this is stable. It never says open (W-206).
+-- What the text of a sheet can be: a refusal's line; two lines, the second with the end none; or two lines, the second with the end stable, and the station
+-- lines. It never says open (W-206).
 pub data Says (s : List ℕ) : Type 0 where
   refused : (k at : ℕ) → programText s ≡ refusedLine k at → Says s
   none : (w : Work) (steps removed : ℕ) → programText s ≡ openedLine w ++ stepsLine steps removed "none" → Says s
