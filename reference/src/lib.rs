@@ -36,7 +36,6 @@ pub mod words;
 pub mod written;
 
 pub use calls::{Calls, Fast, Plain};
-pub use ceiling::ceiling;
 pub use chain::chain;
 pub use filled::Filled;
 pub use hand::Handled;

@@ -7,12 +7,12 @@ use Rattle.circuit.specs.Round.{All}
 use Rattle.sheet.specs.declared.Opened.{Opened}
 use Rattle.sheet.specs.Open.{openCall}
 use Rattle.sheet.proofs.GrammarLaws.{taken-sheet, opened-good}
-use Rattle.filter.specs.Ends.{EndsWithin}
+use Rattle.filter.specs.Ends.{ceiling, EndsWithin}
 use Rattle.filter.proofs.CeilingLaws.{run-ceiling, run-most, run-anywhere, run-enough}
 use Rattle.demands.specs.Ceiling.{Ceiling}
 use Rattle.demands.proofs.DemandLaws.{all-leads}
 
-opened-within : (sheet : List ℕ) (limit : ℕ) → openCall sheet limit .answer ≡ card 0 → EndsWithin (openCall sheet limit .work) 266178
+opened-within : (sheet : List ℕ) (limit : ℕ) → openCall sheet limit .answer ≡ card 0 → EndsWithin (openCall sheet limit .work) (ceiling 64 4032)
 opened-within sheet limit t =
     let is = taken-sheet sheet limit t .opened in
     run-most (openCall sheet limit .work) (opened-good sheet limit t) (ap (λ (o : Opened). o .work .place) is) (ap (λ (o : Opened). o .work .mark) is)

@@ -15,10 +15,10 @@ use Rattle.demands.specs.Sequence.{Call, afterAll}
 pub record Ceiling : Type 0 where
   -- a good state with place 0, mark clear and L legs: at most (n + 2) * (L + 1) steps, also where its end is not open
   pub begun : (w : Work) → Good w → w .place ≡ 0 → w .mark ≡ false → EndsWithin w (ceiling (w .n) (legs (w .n) (rowsOf w)))
-  -- that is, for 64 stations and 4,032 legs
+  -- for 64 stations and 4,032 legs that is 266,178
   pub largest : ceiling 64 4032 ≡ 266178
-  -- every sheet that is opened
-  pub opened : (sheet : List ℕ) (limit : ℕ) → openCall sheet limit .answer ≡ card 0 → EndsWithin (openCall sheet limit .work) 266178
+  -- and no sheet that is opened has a higher ceiling
+  pub opened : (sheet : List ℕ) (limit : ℕ) → openCall sheet limit .answer ≡ card 0 → EndsWithin (openCall sheet limit .work) (ceiling 64 4032)
   -- any place and either mark: at most as many as with a leg more
   pub anywhere : (w : Work) → Good w → EndsWithin w (ceiling (w .n) (legs (w .n) (rowsOf w) + 1))
   -- so the program's budget is enough for every good state

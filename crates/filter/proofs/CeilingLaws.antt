@@ -127,8 +127,8 @@ ceiling-most w g l =
     let cycles : standing w + l + 1 ≤ 4032 + l + 1 = omega (arith, good-legs w g) in
     mul-le-mul few cycles
 
-pub run-most : (w : Work) → Good w → w .place ≡ 0 → w .mark ≡ false → EndsWithin w 266178
-run-most w g p m = within-more w (ceiling (w .n) (standing w)) 266178 (omega (arith, ceiling-most w g 0)) (run-ceiling w g p m)
+pub run-most : (w : Work) → Good w → w .place ≡ 0 → w .mark ≡ false → EndsWithin w (ceiling 64 4032)
+run-most w g p m = within-more w (ceiling (w .n) (standing w)) (ceiling 64 4032) (omega (arith, ceiling-most w g 0)) (run-ceiling w g p m)
 
 -- the program's budget is enough
 pub run-enough : (w : Work) → Good w → (budget : ℕ) → fullBudget ≤ budget → Ended (runCall w budget .work)

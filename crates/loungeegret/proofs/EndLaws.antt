@@ -1,53 +1,49 @@
--- A run with the full budget leaves an end that is stable or none in the lent words (W-206). Assumes nothing.
-use mathlib.Core.Path.{_≡_, sym, ap, _∙_}
-use mathlib.Core.Logic.{inl, inr, ⊎-elim}
-use mathlib.Core.Bool.{false, not}
+-- A run with the full budget leaves a state in the lent words whose end is stable or none (W-206). Assumes nothing.
+use mathlib.Core.Path.{_≡_, refl, sym, ap, _∙_, subst}
+use mathlib.Core.Logic.{⊎-elim}
+use mathlib.Core.Bool.{false}
 use mathlib.Core.List.{List}
-use Prim.Native.Nat.{ℕ, _≤_}
+use Prim.Native.Nat.{ℕ, _≤_, _<_}
 use native.Mathlib.Omega.{arith}
-use lib.Dec.{eqb}
-use lib.ListN.{length, getD, drop}
-use borrow.Author.Tests.{ltb-false}
-use Rattle.bitset.proofs.BoolLaws.{is-false, cond-true, cond-false}
+use lib.ListN.{length}
+use borrow.Author.Tests.{lt-ltb}
+use Rattle.bitset.proofs.BoolLaws.{is-false, cond-true}
+use Rattle.bitset.proofs.QuantLaws.{below?}
 use Rattle.circuit.specs.declared.state.Work.{Work}
-use Rattle.circuit.specs.Card.{number, endCode}
-use Rattle.circuit.specs.Round.{All}
+use Rattle.circuit.specs.Card.{number}
 use Rattle.circuit.specs.State.{bad}
 use Rattle.circuit.proofs.StateLaws.{good}
 use Rattle.filter.specs.declared.cycle.Ran.{Ran}
 use Rattle.filter.specs.Calls.{runCall}
-use Rattle.filter.specs.Ends.{fullBudget}
-use Rattle.filter.proofs.CallLaws.{runCall-leads}
+use Rattle.filter.specs.Ends.{Ended, fullBudget}
 use Rattle.filter.proofs.RunLaws.{run-bad}
 use Rattle.filter.proofs.CeilingLaws.{run-enough}
-use Rattle.loungeegret.specs.Words.{stateWords, tooFew, loaded, storedIn}
-use Rattle.loungeegret.specs.Results.{noState, onState, wordsAfter, RunResult, EndedWords}
-use Rattle.loungeegret.proofs.WordsLaws.{stored-end, loaded-long}
+use Rattle.demands.specs.Sequence.{running, handed}
+use Rattle.loungeegret.specs.Words.{stateWords, loaded}
+use Rattle.loungeegret.specs.Results.{noState, onState, RunResult}
+use Rattle.loungeegret.specs.Sequence.{wordsHanded}
+use Rattle.loungeegret.proofs.WordsLaws.{loaded-long}
+use Rattle.loungeegret.proofs.SequenceLaws.{on-state, handed-holds}
 
 module _ (s s₁ : List ℕ) (budget m m₁ k k₁ r : ℕ) (R : RunResult (runCall (loaded s) budget) s s₁ m m₁ k k₁ r) (full : fullBudget ≤ budget) (zero : r ≡ 0) where
-  abbrev w : Work
-  w = loaded s
-
   abbrev c : Ran
-  c = runCall w budget
+  c = runCall (loaded s) budget
 
-  -- the number 0 says that the words suffice, and that the run is taken
-  suffice : tooFew s ≡ false
+  -- the number 0 says that the words suffice, and that the state is not bad
+  suffice : stateWords ≤ length s
   unfolding onState
-  suffice = is-false (tooFew s) (λ e. let q : 0 ≡ noState = sym zero ∙ R .number ∙ cond-true noState (number (c .answer)) e in omega (arith, q))
+  suffice = ⊎-elim (λ l. let q : 0 ≡ noState = sym zero ∙ R .number ∙ cond-true noState (number (c .answer)) (lt-ltb (length s) stateWords l) in absurd (omega (arith, q))) (λ h. h) (below? (length s) stateWords)
 
-  taken : number (c .answer) ≡ 0
-  unfolding onState
-  taken = sym (cond-false noState (number (c .answer)) suffice) ∙ sym (R .number) ∙ zero
+  not-bad : bad (loaded s) ≡ false
+  not-bad =
+      is-false (bad (loaded s)) (λ e.
+      let q : 0 ≡ 7 = sym zero ∙ R .number ∙ on-state s noState (number (c .answer)) suffice ∙ ap (λ (x : Ran). number (x .answer)) (run-bad (loaded s) budget e) in
+      omega (arith, q))
 
-  not-bad : bad w ≡ false
-  not-bad = is-false (bad w) (λ e. let q : 0 ≡ 7 = sym taken ∙ ap (λ (x : Ran). number (x .answer)) (run-bad w budget e) in omega (arith, q))
+  -- the words hold what the run hands back
+  held : loaded s₁ ≡ c .work
+  unfolding wordsHanded handed
+  held = ap loaded (R .words) ∙ handed-holds s s (loaded s) (record { enough = suffice; is = refl; long = loaded-long s suffice; rest = refl }) (running budget) .is
 
-  end : getD s₁ 68 0 ≡ endCode (c .work .end)
-  unfolding onState wordsAfter storedIn
-  end =
-      ap (λ (x : List ℕ). getD x 68 0) (R .words ∙ cond-false s (wordsAfter s (c .answer) (c .work)) suffice ∙ cond-false s (storedIn s (c .work)) (ap (λ (x : ℕ). not (eqb x 0)) taken))
-      ∙ stored-end (c .work) (runCall-leads All w budget .long (loaded-long s (ltb-false (length s) stateWords suffice))) (drop stateWords s)
-
-  pub run-ended : EndedWords s₁
-  run-ended = ⊎-elim (λ h. inl (end ∙ ap endCode h)) (λ h. inr (end ∙ ap endCode h)) (run-enough w (good w not-bad) budget full)
+  pub run-ended : Ended (loaded s₁)
+  run-ended = subst Ended (sym held) (run-enough (loaded s) (good (loaded s) not-bad) budget full)

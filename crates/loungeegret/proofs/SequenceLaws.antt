@@ -28,16 +28,16 @@ use Rattle.loungeegret.specs.Sequence.{openedWords, wordsBack, wordsHand
 use Rattle.loungeegret.proofs.WordsLaws.{length-stored, loaded-stored}
 
 -- words that suffice are written
-on-state : {A : Type 0} (s : List ℕ) (x y : A) → stateWords ≤ length s → onState s x y ≡ y
+pub on-state : {A : Type 0} (s : List ℕ) (x y : A) → stateWords ≤ length s → onState s x y ≡ y
 unfolding onState
 on-state s x y h = cond-false x y (le-ltb (length s) stateWords h)
 
 -- the words s hold the state w, and after it what the words o have
-record Holds (o s : List ℕ) (w : Work) : Type 0 where
-  enough : stateWords ≤ length s
-  is : loaded s ≡ w
-  long : length (rowsOf w) ≡ 64
-  rest : drop stateWords s ≡ drop stateWords o
+pub record Holds (o s : List ℕ) (w : Work) : Type 0 where
+  pub enough : stateWords ≤ length s
+  pub is : loaded s ≡ w
+  pub long : length (rowsOf w) ≡ 64
+  pub rest : drop stateWords s ≡ drop stateWords o
 
 -- a state that is stored
 stored-holds : (o s : List ℕ) (w : Work) → drop stateWords s ≡ drop stateWords o → length (rowsOf w) ≡ 64 → Holds o (storedIn s w) w
@@ -65,7 +65,7 @@ back-holds o s w H a u same long = ⊎-elim kept put (cases (refuses a))
 refusal : (a : Answer) → refuses a ≡ true → Refusal a
 refusal a e q = not-both e (ap refuses q)
 
-handed-holds : (o s : List ℕ) (w : Work) → Holds o s w → (c : Call) → Holds o (wordsHanded s c) (handed w c)
+pub handed-holds : (o s : List ℕ) (w : Work) → Holds o s w → (c : Call) → Holds o (wordsHanded s c) (handed w c)
 unfolding wordsHanded handed
 handed-holds o s w H (calling r) =
     subst (λ (v : Work). Holds o (wordsBack s (handCall v r .answer) (handCall v r .work)) (handCall w r .work)) (sym (H .is))

@@ -100,11 +100,6 @@ module _ (w : Work) (whole : length (rowsOf w) ≡ 64) where
         end-of-number (w .end),
       ))
 
-  -- the last of its words is the end
-  pub stored-end : (rest : List ℕ) → getD (stored w ++ rest) 68 0 ≡ endCode (w .end)
-  unfolding stored
-  stored-end rest = rw (append-assoc (rowsOf w) (fields w) rest) (past 4 (rowsOf w) (fields w ++ rest) whole)
-
 -- the table of the words has 64 of them
 pub loaded-long : (s : List ℕ) → stateWords ≤ length s → length (rowsOf (loaded s)) ≡ 64
 unfolding loaded

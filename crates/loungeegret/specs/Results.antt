@@ -1,12 +1,10 @@
 -- What the calls leave with a caller in another language: the number, the lent words and bytes, and what is written through pointers.
 -- In a record of a call, s is the lent state and r the number; of what the call may write, x is there before it and x₁ after it.
 use mathlib.Core.Path.{_≡_}
-use mathlib.Core.Logic.{_⊎_}
 use mathlib.Core.Bool.{Bool, not, cond}
 use mathlib.Core.List.{List}
 use Prim.Native.Nat.{ℕ}
 use lib.Dec.{eqb}
-use lib.ListN.{getD}
 use Rattle.bitset.specs.Sets.{digit}
 use Rattle.circuit.specs.declared.card.Answer.{Answer}
 use Rattle.circuit.specs.declared.state.Work.{Work}
@@ -15,7 +13,7 @@ use Rattle.filter.specs.declared.hand.Called.{Called}
 use Rattle.filter.specs.declared.cycle.Ran.{Ran}
 use Rattle.circuit.specs.declared.list.Checked.{Checked}
 use Rattle.circuit.specs.declared.filled.Filled.{Filled}
-use Rattle.circuit.specs.Card.{number, ending, endCode}
+use Rattle.circuit.specs.Card.{number}
 use Rattle.circuit.specs.Fill.{filled}
 use Rattle.writer.specs.Lent.{written}
 use Rattle.loungeegret.specs.Words.{tooFew, storedIn}
@@ -54,10 +52,6 @@ pub record RunResult (c : Ran) (s s₁ : List ℕ) (m m₁ k k₁ r : ℕ) : Typ
   pub words : s₁ ≡ onState s s (wordsAfter s (c .answer) (c .work))
   pub steps : m₁ ≡ onState s m (c .steps)
   pub removed : k₁ ≡ onState s k (c .removed)
-
--- the word of the end says stable or none
-abbrev pub EndedWords : List ℕ → Type 0
-EndedWords s = (getD s 68 0 ≡ endCode (ending "stable")) ⊎ (getD s 68 0 ≡ endCode (ending "none"))
 
 -- the list check
 pub record CheckResult (c : Checked) (s : List ℕ) (y y₁ r : ℕ) : Type 0 where

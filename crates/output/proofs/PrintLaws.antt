@@ -29,7 +29,7 @@ use Rattle.filter.specs.Ends.{Ended, fullBudget}
 use Rattle.filter.proofs.CallLaws.{runCall-leads}
 use Rattle.filter.proofs.CeilingLaws.{run-enough}
 use Rattle.report.specs.Lines.{linesFrom, text}
-use Rattle.output.specs.Program.{openedLine, stepsLine, ranLine, stationLines, takenText, refusedLine, openedText, programText, Says, refused, none, stable}
+use Rattle.output.specs.Program.{openedLine, stepsLine, ranLine, stationLines, pruned, takenText, refusedLine, openedText, programText, Says, refused, none, stable}
 use Rattle.output.specs.inner.Prints.{shown}
 
 regroup : (x a b c : List ℕ) → x ++ (a ++ b ++ c) ≡ x ++ a ++ b ++ c
@@ -79,27 +79,24 @@ taken-good s e = opened-good s 64 (number-one (openCall s 64 .answer) Taken e)
 
 -- ---- no text says open
 
-module _ (s : List ℕ) where
-  abbrev o : Opened
-  o = openCall s 64
-
+module _ (o : Opened) (e : number (o .answer) ≡ 0) where
   abbrev r : Ran
-  r = runCall (o .work) fullBudget
+  r = pruned (o .work)
 
   -- the text of a taken sheet, by the word of the end and the lines that follow
-  with-end : number (o .answer) ≡ 0 → (end : String) (lines : List ℕ) → word (r .work .end) ≡ end → stationLines (r .work) ≡ lines
-      → programText s ≡ openedLine (o .work) ++ stepsLine (r .steps) (r .removed) end ++ lines
-  unfolding programText takenText
-  with-end e end lines p q =
-      sym (opened-taken o e) ∙ ap₂ (λ (x : String) (y : List ℕ). openedLine (o .work) ++ stepsLine (r .steps) (r .removed) x ++ y) p q
+  with-end : (end : String) (lines : List ℕ) → word (r .work .end) ≡ end → stationLines (r .work) ≡ lines
+      → openedText o ≡ openedLine (o .work) ++ stepsLine (r .steps) (r .removed) end ++ lines
+  unfolding takenText
+  with-end end lines p q = sym (opened-taken o e) ∙ ap₂ (λ (x : String) (y : List ℕ). openedLine (o .work) ++ stepsLine (r .steps) (r .removed) x ++ y) p q
 
-  ended-says : number (o .answer) ≡ 0 → Ended (r .work) → Says s
+  ended-says : Ended (r .work) → Says o (openedText o)
   unfolding stationLines
-  ended-says e (inl h) = stable (o .work) (r .work) (r .steps) (r .removed) (with-end e "stable" (text (r .work)) (ap word h) (cond-false [] (text (r .work)) (ap isNone h)))
-  ended-says e (inr h) = none (o .work) (r .steps) (r .removed) (with-end e "none" [] (ap word h) (cond-true [] (text (r .work)) (ap isNone h)) ∙ append-nil _)
+  ended-says (inl h) = stable (with-end "stable" (text (r .work)) (ap word h) (cond-false [] (text (r .work)) (ap isNone h)))
+  ended-says (inr h) = none (with-end "none" [] (ap word h) (cond-true [] (text (r .work)) (ap isNone h)) ∙ append-nil _)
 
-  pub never-open : Says s
-  unfolding programText openedText
-  never-open =
-      ⊎-elim (λ e. let zero = eqb-true (number (o .answer)) 0 e in ended-says zero (run-enough (o .work) (taken-good s zero) fullBudget (omega arith)))
-      (λ e. refused (number (o .answer)) (o .at) (cond-false (takenText (o .work)) (refusedLine (number (o .answer)) (o .at)) e)) (cases (eqb (number (o .answer)) 0))
+pub never-open : (s : List ℕ) → Says (openCall s 64) (programText s)
+unfolding programText openedText
+never-open s =
+    let o = openCall s 64 in
+    ⊎-elim (λ e. let zero = eqb-true (number (o .answer)) 0 e in ended-says o zero (run-enough (o .work) (taken-good s zero) fullBudget (omega arith)))
+    (λ e. refused (cond-false (takenText (o .work)) (refusedLine (number (o .answer)) (o .at)) e)) (cases (eqb (number (o .answer)) 0))

@@ -33,9 +33,13 @@ ranLine r = stepsLine (r .steps) (r .removed) (word (r .work .end))
 unfoldable pub stationLines : Work → List ℕ
 stationLines w = cond (isNone (w .end)) [] (text w)
 
--- of an opened state, run with budget 300,000: two lines, and the station lines
+-- the run of an opened state, with budget 300,000
+abbrev pub pruned : Work → Ran
+pruned w = runCall w fullBudget
+
+-- of an opened state: two lines, and the station lines
 unfoldable pub takenText : Work → List ℕ
-takenText w = let r = runCall w fullBudget in openedLine w ++ ranLine r ++ stationLines (r .work)
+takenText w = let r = pruned w in openedLine w ++ ranLine r ++ stationLines (r .work)
 
 -- of a refused sheet: one line, its number, then its place
 unfoldable pub refusedLine : ℕ → ℕ → List ℕ
@@ -51,9 +55,9 @@ openedText o =
 unfoldable pub programText : List ℕ → List ℕ
 programText s = openedText (openCall s 64)
 
--- What the text of a sheet can be: a refusal's line; two lines, the second with the end none; or two lines, the second with the end stable, and the station
+-- What the text t of an opening can be: a refusal's line; two lines, the second with the end none; or two lines, the second with the end stable, and the station
 -- lines. It never says open (W-206).
-pub data Says (s : List ℕ) : Type 0 where
-  refused : (k at : ℕ) → programText s ≡ refusedLine k at → Says s
-  none : (w : Work) (steps removed : ℕ) → programText s ≡ openedLine w ++ stepsLine steps removed "none" → Says s
-  stable : (w left : Work) (steps removed : ℕ) → programText s ≡ openedLine w ++ stepsLine steps removed "stable" ++ text left → Says s
+pub data Says (o : Opened) (t : List ℕ) : Type 0 where
+  refused : t ≡ refusedLine (number (o .answer)) (o .at) → Says o t
+  none : t ≡ openedLine (o .work) ++ stepsLine (pruned (o .work) .steps) (pruned (o .work) .removed) "none" → Says o t
+  stable : t ≡ openedLine (o .work) ++ stepsLine (pruned (o .work) .steps) (pruned (o .work) .removed) "stable" ++ text (pruned (o .work) .work) → Says o t

@@ -12,8 +12,7 @@ use Rattle.circuit.specs.declared.card.Answer.the-variants.{Taken}
 use Rattle.circuit.specs.declared.verdict.Verdict.{Verdict}
 use Rattle.circuit.specs.Legs.{Subtable}
 use Rattle.circuit.specs.State.{rowsOf, moved, Good}
-use Rattle.circuit.proofs.StateLaws.{good-legs}
-use Rattle.circuit.proofs.StateLaws.{stray-row}
+use Rattle.circuit.proofs.StateLaws.{stray-row, good-legs}
 use Rattle.filter.specs.declared.cycle.Cursor.{Cursor}
 use Rattle.filter.specs.Rule.{straySeed, ruleAt}
 use Rattle.filter.specs.Calls.{verdict, gone}
