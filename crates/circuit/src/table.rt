@@ -1,14 +1,13 @@
-// The leg table: its full one, its columns, its legs, and its stray legs.
+// The leg table: its full one, its legs, and its stray legs.
 ghost use denote.Ref.{now};
 ghost use mathlib.Core.Path.{_≡_};
 ghost use Prim.Native.Nat.{ℕ, _≤_, _<_};
 ghost use lib.Count.{ones};
-ghost use lib.ListN.{length};
 ghost use Rattle.bitset.specs.Sets.{sum};
-ghost use Rattle.bitset.specs.Upto.{upto, row};
-ghost use Rattle.circuit.specs.Legs.{columns, fullTable, capped};
+ghost use Rattle.bitset.specs.Upto.{row};
+ghost use Rattle.circuit.specs.Legs.{fullTable, capped};
 ghost use Rattle.circuit.specs.State.{strayRow, stray};
-ghost use Rattle.circuit.specs.inner.Tables.{Square, fullRow, gaps, added, some, Tells};
+ghost use Rattle.circuit.specs.inner.Tables.{fullRow, some, Tells};
 
 pub struct Table {
     pub rows: [u64; 64],
@@ -50,66 +49,6 @@ fn full_row(n: usize, i: usize) -> u64
         bitset::full(n) & !(1u64 << i)
     } else {
         0
-    }
-}
-
-// Which stations have a leg into each station. A dense table has fewer gaps than legs: its columns are what the columns of its gaps leave open.
-pub fn columns(rows: &[u64; 64], n: usize) -> [u64; 64]
-    requires { ⌜ (n ≤ 64) × Square n (now rows) ⌝ }
-    ensures { λ r. ⌜ r ≡ columns n (now (rows .entry)) ⌝ }
-{
-    if looks_dense(rows, n) {
-        let missing = complements(rows, n);
-        let barred = columns_by_legs(&missing, n);
-        return complements(&barred, n);
-    }
-    columns_by_legs(rows, n)
-}
-
-// Only the cost depends on the answer, so one row is asked.
-fn looks_dense(rows: &[u64; 64], n: usize) -> bool {
-    n / 2 < row_legs(rows[0]) as usize
-}
-
-// Of each of the first n words, what it lacks of the numbers below n.
-fn complements(words: &[u64; 64], n: usize) -> [u64; 64]
-    requires { ⌜ n ≤ 64 ⌝ }
-    ensures { λ r. ⌜ r ≡ gaps n (now (words .entry)) ⌝ }
-{
-    let all = bitset::full(n);
-    let mut out = [0u64; 64];
-    let mut i = 0usize;
-    while i < n {
-        out[i] = bitset::difference(all, words[i]);
-        i += 1;
-    }
-    out
-}
-
-// One turn a leg.
-fn columns_by_legs(rows: &[u64; 64], n: usize) -> [u64; 64]
-    requires { ⌜ n ≤ 64 ⌝ }
-    ensures { λ r. ⌜ r ≡ columns n (now (rows .entry)) ⌝ }
-{
-    let mut cols = [0u64; 64];
-    let mut i = 0usize;
-    while i < n {
-        add_row(&mut cols, i, rows[i]);
-        i += 1;
-    }
-    cols
-}
-
-// Station i goes into the column of each station that may follow it; one turn a leg.
-fn add_row(cols: &mut [u64; 64], i: usize, legs: u64)
-    requires { ⌜ (i < 64) × (length (now cols) ≡ 64) ⌝ }
-    ensures { λ _. ⌜ now (cols .exit) ≡ upto 64 (added i legs (now (cols .entry))) ⌝ }
-{
-    let mut rest = legs;
-    while rest != 0 {
-        let j = u64::trailing_zeros(rest) as usize;
-        cols[j] |= 1u64 << i;
-        rest &= rest - 1;
     }
 }
 
