@@ -1,7 +1,7 @@
 // The leg table: its full one, its legs, and its stray legs.
 ghost use denote.Ref.{now};
 ghost use mathlib.Core.Path.{_≡_};
-ghost use Prim.Native.Nat.{ℕ, _≤_, _<_};
+ghost use Prim.Native.Nat.{ℕ, _≤_};
 ghost use lib.Count.{ones};
 ghost use Rattle.bitset.specs.Sets.{sum};
 ghost use Rattle.bitset.specs.Upto.{row};
@@ -24,10 +24,13 @@ impl Table {
         ensures { λ r. ⌜ r .rows ≡ fullTable (capped n) ⌝ }
     {
         let stations = capped(n);
+        let all = bitset::full(stations);
+        let mut own = 1u64;
         let mut rows = [0u64; 64];
         let mut i = 0usize;
-        while i < Table::MAX {
-            rows[i] = full_row(stations, i);
+        while i < stations {
+            rows[i] = all & !own;
+            own <<= 1;
             i += 1;
         }
         Table { rows }
@@ -38,18 +41,6 @@ fn capped(n: usize) -> usize
     ensures { λ r. ⌜ r ≡ capped n ⌝ }
 {
     if n < Table::MAX { n } else { Table::MAX }
-}
-
-// Row i of the full table.
-fn full_row(n: usize, i: usize) -> u64
-    requires { ⌜ (n ≤ 64) × (i < 64) ⌝ }
-    ensures { λ r. ⌜ r ≡ fullRow n i ⌝ }
-{
-    if i < n {
-        bitset::full(n) & !(1u64 << i)
-    } else {
-        0
-    }
 }
 
 // How many legs stand: the bits that are set. In a table without stray legs these are the legs of its n stations
