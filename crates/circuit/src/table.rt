@@ -5,9 +5,9 @@ ghost use Prim.Native.Nat.{ℕ, _≤_};
 ghost use lib.Count.{ones};
 ghost use Rattle.bitset.specs.Sets.{sum};
 ghost use Rattle.bitset.specs.Upto.{row};
-ghost use Rattle.circuit.specs.Legs.{fullTable, capped};
+ghost use Rattle.circuit.specs.Legs.{fullTable, capped, legs};
 ghost use Rattle.circuit.specs.State.{strayRow, stray};
-ghost use Rattle.circuit.specs.inner.Tables.{fullRow, some, Tells};
+ghost use Rattle.circuit.specs.inner.Tables.{Square, fullRow, some, Tells};
 
 pub struct Table {
     pub rows: [u64; 64],
@@ -55,6 +55,20 @@ pub fn legs(rows: &[u64; 64]) -> u32
         i += 1;
     }
     count
+}
+
+// The same from the rows of the n stations alone.
+pub fn legs_of(rows: &[u64; 64], n: usize) -> u32
+    requires { ⌜ (n ≤ 64) × Square n (now rows) ⌝ }
+    ensures { λ r. ⌜ (r ≡ legs n (now (rows .entry))) × (r ≤ 4096) ⌝ }
+{
+    let mut total = 0u32;
+    let mut i = 0usize;
+    while i < n {
+        total += row_legs(rows[i]);
+        i += 1;
+    }
+    total
 }
 
 // The bound is known of a word that is a parameter, and not of an element.
