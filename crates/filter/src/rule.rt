@@ -62,7 +62,7 @@ pub(crate) fn take(
 {
     match rule {
         Rule::Sweep => sweep_rows(rows, n),
-        Rule::Chain => chain_rows(rows, cols, n),
+        Rule::Chain => chain_rows(rows, n),
         Rule::Pass(seed) => {
             let none = pass_on(rows, cols, n, limit, seed - 1);
             Taken { none, stale: false }

@@ -7,11 +7,10 @@ ghost use Rattle.bitset.specs.Sets.{setOf};
 ghost use Rattle.circuit.specs.inner.Tables.{Square};
 ghost use Rattle.filter.specs.inner.Singles.{single, soleIn, SinglesOf};
 
-// Of the first words of a list: some word is empty; which words have one member only; the members of some word and of two words; and the same
-// of the words with one member only. Of the rows of a table, a station that no row has as a member has no leg in.
+// Of the first words of a list: some word is empty; the members of some word and of two words; and the same of the words with one member
+// only. Of the rows of a table, a station that no row has as a member has no leg in.
 pub(crate) struct Singles {
     pub(crate) empty: bool,
-    pub(crate) which: u64,
     pub(crate) reached: u64,
     pub(crate) again: u64,
     pub(crate) once: u64,
@@ -49,7 +48,6 @@ pub(crate) fn single_words(words: &[u64; 64], n: usize) -> Singles
     ensures { λ r. ⌜ SinglesOf n (now (words .entry)) r ⌝ }
 {
     let mut empty = false;
-    let mut which = 0u64;
     let mut reached = 0u64;
     let mut again = 0u64;
     let mut once = 0u64;
@@ -59,7 +57,6 @@ pub(crate) fn single_words(words: &[u64; 64], n: usize) -> Singles
         let word = words[k];
         let w = only_member(word);
         empty = empty | (word == 0);
-        which = bitset::insert_if(which, k, w);
         again |= reached & word;
         reached |= word;
         twice |= once & w;
@@ -68,7 +65,6 @@ pub(crate) fn single_words(words: &[u64; 64], n: usize) -> Singles
     }
     Singles {
         empty,
-        which,
         reached,
         again,
         once,

@@ -4,7 +4,7 @@ use mathlib.Core.Bool.{Bool, not, cond, _&&_}
 use mathlib.Core.List.{List}
 use Prim.Native.Nat.{ℕ, _<_}
 use lib.Count.{ones}
-use lib.Dec.{eqb, ltb}
+use lib.Dec.{eqb}
 use lib.ListN.{getD}
 use Rattle.bitset.specs.Sets.{has, any}
 use Rattle.filter.specs.declared.singles.Singles.{Singles}
@@ -29,8 +29,6 @@ two n p = any n (λ k. p k && any k p)
 pub record SinglesOf (n : ℕ) (words : List ℕ) (r : Singles) : Type 0 where
   -- some word is empty
   pub empty : r .empty ≡ any n (λ k. eqb (getD words k 0) 0)
-  -- the words with one member only
-  pub which : (k : ℕ) → k < 64 → has (r .which) k ≡ ltb k n && single (getD words k 0)
   -- the members of some word, and of two words
   pub reached : (j : ℕ) → j < 64 → has (r .reached) j ≡ any n (holds words j)
   pub again : (j : ℕ) → j < 64 → has (r .again) j ≡ two n (holds words j)

@@ -21,7 +21,7 @@ enum-told-2 : tie.Need-enum-told-2
 enum-told-2 c = search needs
 
 chain-rows-requires : tie.Need-chain-rows-requires
-chain-rows-requires c κs = let s = c .before .before .before .before in (s .pre .0, s .pre .1, s .pre .3)
+chain-rows-requires c κs = let s = c .before .before .before in (s .pre .0, s .pre .1, s .pre .3 .len, s .pre .3 .clean)
 
 enum-known-rule : tie.Need-enum-known-rule
 enum-known-rule c = search needs
@@ -60,9 +60,10 @@ returns c =
 returns-2 : tie.Need-returns-2
 unfolding says
 returns-2 c =
-    let told = c .before .before .before in
-    let a = told .before .before .args in
-    rows-as (ap (λ (r : Rule). says r (a .n) (a .rows .now) (a .limit)) (sym (told .enum-told2 .given .1))) (c .chain-rows .ensures)
+    let told = c .before .before in
+    let s = told .before .before in
+    let a = s .args in
+    beside (s .pre .3) (ap (λ (r : Rule). says r (a .n) (a .rows .now) (a .limit)) (sym (told .enum-told2 .given .1))) (c .chain-rows .ensures)
 
 returns-3 : tie.Need-returns-3
 unfolding says

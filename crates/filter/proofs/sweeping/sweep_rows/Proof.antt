@@ -78,8 +78,8 @@ returns-2 c =
     let x = next .result .once in
     let y = o .sole .result in
     record {
-      verdict = left f (o .before .if1 .left) _ (swept-same (s .args .n) (s .args .rows .now) (s .pre .0) (s .pre .2) (s .pre .1) (next .result) (next .ensures) y (o .sole .ensures)
-          (eqb-true x 0 (and-l (eqb x 0) (eqb y 0) (c .if2 .taken))) (eqb-true y 0 (and-r (eqb x 0) (eqb y 0) (c .if2 .taken))));
+      verdict = left f (o .before .if1 .left) _ (sym (swept-same (s .args .n) (s .args .rows .now) (s .pre .0) (s .pre .2) (next .result) (next .ensures) y (o .sole .ensures)
+          (eqb-true x 0 (and-l (eqb x 0) (eqb y 0) (c .if2 .taken))) (eqb-true y 0 (and-r (eqb x 0) (eqb y 0) (c .if2 .taken))) (s .pre .1)));
       clean = s .pre .2;
       len = s .pre .1;
       same = λ _. refl;
