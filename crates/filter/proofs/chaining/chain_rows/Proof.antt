@@ -58,7 +58,7 @@ untouched : (s : tie.Start) (none : Bool) → chain (s .args .n) (s .args .rows 
 untouched s none e = record { verdict = e; clean = s .pre .3; len = s .pre .2; same = λ _. refl }
 
 single-words-requires : tie.Need-single-words-requires
-single-words-requires c κs = let s = c .before in (s .pre .1, stray-row (s .args .n) _ (s .pre .1) (s .pre .3))
+single-words-requires c κs = search needs
 
 sole-requires : tie.Need-sole-requires
 sole-requires c κs = search needs
