@@ -37,7 +37,7 @@ use Rattle.filter.proofs.LoopLaws.{Marks, compulsories-square, closing-
 
 -- ---- without stations that have one leg only
 
--- a word with no or two members and more has no only member
+-- a word with no member or with more than one has no only member
 lone : (n w j : ℕ) → w < 2 ^ n → j < n → single w ≡ false → has w j ≡ true → ((i : ℕ) → i < n → has w i ≡ true → i ≡ j) → ⊥
 lone n w j h l many e only = not-both (eq-eqb (ones w) 1 (ap ones (pow-only n w j h l e only) ∙ ones-pow j)) many
 

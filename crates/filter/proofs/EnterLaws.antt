@@ -32,7 +32,7 @@ use Rattle.filter.proofs.SoleLaws.{col-below, col-some, col-two}
 
 -- ---- the columns of the first rows of a table m
 
-pub columns-start : (m : List ℕ) → replicate 64 0 ≡ columns 0 m
+columns-start : (m : List ℕ) → replicate 64 0 ≡ columns 0 m
 unfolding col setOf
 columns-start m = upto-of 64 (col 0 m) 0 (replicate 64 0) (length-replicate {A = ℕ} 64 0) (λ k l. getD-replicate {A = ℕ} 64 k 0 0 l)
 
@@ -44,7 +44,7 @@ module _ (m : List ℕ) (i : ℕ) where
   columns-skip e = upto-cong 64 (col i m) (col (i + 1) m) (λ j l. setOf-skip i (λ k. leg m k j) (ap (λ (x : ℕ). has x j) e ∙ has-zero j))
 
   -- it has the leg to j alone
-  pub columns-take : (j : ℕ) → j < 64 → row m i ≡ 2 ^ j → set (columns i m) j (bitOr (row (columns i m) j) (2 ^ i)) ≡ columns (i + 1) m
+  columns-take : (j : ℕ) → j < 64 → row m i ≡ 2 ^ j → set (columns i m) j (bitOr (row (columns i m) j) (2 ^ i)) ≡ columns (i + 1) m
   unfolding col leg
   columns-take j l e =
       upto-of 64 (col (i + 1) m) 0 (set (columns i m) j new) (length-set (columns i m) j new ∙ length-upto 64 (col i m)) (λ k lk. ⊎-elim (here k) (other k lk) (cases (eqb k j)))
@@ -83,7 +83,7 @@ free-none w set e =
 -- ---- the loop, over the rows of a table m
 
 -- the number k joins a set, where it passes
-pub joins : (p : ℕ → Bool) (k w set r : ℕ) → ltb 0 w ≡ p k → r ≡ setOf 64 (λ j. has set j || eqb j k && ltb 0 w) → ((j : ℕ) → j < 64 → has set j ≡ ltb j k && p j)
+joins : (p : ℕ → Bool) (k w set r : ℕ) → ltb 0 w ≡ p k → r ≡ setOf 64 (λ j. has set j || eqb j k && ltb 0 w) → ((j : ℕ) → j < 64 → has set j ≡ ltb j k && p j)
     → (j : ℕ) → j < 64 → has r j ≡ ltb j (k + 1) && p j
 joins p k w set r e gives is j l =
     word-has 64 (λ j. has set j || eqb j k && ltb 0 w) gives j l ∙ ap (λ (b : Bool). b || eqb j k && ltb 0 w) (is j l) ∙ ⊎-elim here other (cases (eqb j k))

@@ -52,7 +52,7 @@ module _ (n : ℕ) (t : List ℕ) (le : n ≤ 64) (clean : stray n t ≡ false) 
       ∙ sym (single-is n (col n t j) (col-below n t j))
 
   -- no row has a member beyond n
-  pub reached-above : (j : ℕ) → n ≤ j → j < 64 → has (next .reached) j ≡ false
+  reached-above : (j : ℕ) → n ≤ j → j < 64 → has (next .reached) j ≡ false
   reached-above j g l = gn .reached j l ∙ any-none n (holds t j) (λ k lk. has-above n (getD t k 0) j (stray-row n t le clean k lk) g)
 
   -- some station is not reached

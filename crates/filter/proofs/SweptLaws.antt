@@ -4,7 +4,7 @@ use mathlib.Core.Logic.{⊎-elim}
 use mathlib.Core.Bool.{Bool, true, false, not, cond, _&&_, _||_, and-false}
 use mathlib.Core.List.{List}
 use Prim.Native.Nat.{ℕ, _^_, _≤_, _<_}
-use native.Mathlib.Nat.{lt-of-lt-of-le, lt-trans}
+use native.Mathlib.Nat.{lt-of-lt-of-le}
 use native.Mathlib.Omega.{arith}
 use lib.Bits.{bitAnd, and-le-l}
 use lib.Dec.{eqb, ltb}
@@ -25,7 +25,7 @@ use Rattle.circuit.proofs.StateLaws.{stray-row, stray-beyond, without-none}
 use Rattle.filter.specs.declared.singles.Singles.{Singles}
 use Rattle.filter.specs.inner.Singles.{single, only, two, soleIn, SinglesOf, keeps}
 use Rattle.filter.specs.Sweep.{stuck, nextTaken, prevTaken, swept, sweep}
-use Rattle.filter.proofs.OneLaws.{single-pow, only-bit, twice-once, zero-is, single-is, other-pair, other-once}
+use Rattle.filter.proofs.OneLaws.{single-pow, only-bit, twice-once, two-ext, zero-is, single-is, other-pair, other-once}
 use Rattle.filter.proofs.SoleLaws.{col-has, col-below, col-empty, col-single, unreached, row-many, col-many}
 
 -- ---- of a list of words: some other word than the one at i is the set of j alone
@@ -38,7 +38,7 @@ module _ (n : ℕ) (words : List ℕ) (fits : (k : ℕ) → k < n → getD words
   unfolding is
   only-is k l = single-pow 64 (getD words k 0) j (fits k l) lj
 
-  pub another : cond (single (getD words i 0)) (two n (only words j)) (any n (only words j)) ≡ any n (λ k. not (eqb k i) && eqb (getD words k 0) (2 ^ j))
+  another : cond (single (getD words i 0)) (two n (only words j)) (any n (only words j)) ≡ any n (λ k. not (eqb k i) && eqb (getD words k 0) (2 ^ j))
   unfolding is
   another = ⊎-elim alone more (cases (single (getD words i 0)))
     where
@@ -46,7 +46,7 @@ module _ (n : ℕ) (words : List ℕ) (fits : (k : ℕ) → k < n → getD words
           → cond (single (getD words i 0)) (two n (only words j)) (any n (only words j)) ≡ any n (λ k. not (eqb k i) && is k)
       alone e =
           cond-true _ _ e
-          ∙ any-ext n (λ k. only words j k && any k (only words j)) (λ k. is k && any k is) (λ k l. ap₂ (λ (a b : Bool). a && b) (only-is k l) (any-ext k (only words j) is (λ m h. only-is m (lt-trans h l))))
+          ∙ two-ext n (only words j) is only-is
           ∙ sym (other-pair n is i li (sym (only-is i li) ∙ ap (λ (w : ℕ). has w j) (cond-true (getD words i 0) 0 e) ∙ member))
 
       more : single (getD words i 0) ≡ false
@@ -69,7 +69,7 @@ by-column false false false p h = refl
 
 module _ (n : ℕ) (t : List ℕ) (le : n ≤ 64) (clean : stray n t ≡ false) (next : Singles) (gn : SinglesOf n t next) where
   -- some row or some column is empty
-  pub stuck-is : next .reached < 2 ^ 64 → next .empty || not (eqb (next .reached) (setOf 64 (λ j. ltb j n))) ≡ stuck n t
+  stuck-is : next .reached < 2 ^ 64 → next .empty || not (eqb (next .reached) (setOf 64 (λ j. ltb j n))) ≡ stuck n t
   unfolding stuck
   stuck-is fits =
       ap₂ (λ (a b : Bool). a || b) (gn .empty) (unreached n t le clean next gn fits ∙ sym (any-ext n (λ k. eqb (col n t k) 0) (λ k. not (has (next .reached) k)) (col-empty n t le clean next gn)))
@@ -161,7 +161,7 @@ swept-beyond n t e i g l = stray-beyond n t e i g l ∙ sym (cond-false _ 0 (le-
 
 -- where no station has one leg only, no leg goes
 module _ (n : ℕ) (t : List ℕ) (le : n ≤ 64) (clean : stray n t ≡ false) (next : Singles) (gn : SinglesOf n t next) (sole : ℕ) (alone : sole ≡ setOf 64 (soleIn next)) (none-out : next .once ≡ 0) (none-in : sole ≡ 0) where
-  -- a word with no or two members and more is no set of one
+  -- a word with no member or with more than one is no set of one
   other-word : (w i : ℕ) → w < 2 ^ n → i < n → single w ≡ false → eqb w (2 ^ i) ≡ false
   other-word w i h l e = only-bit n w i h l ∙ ap (λ (b : Bool). has w i && b) e ∙ and-false (has w i)
 
