@@ -1,4 +1,5 @@
 // One separator: levels from a seed, components outside a level, marks, and the rule of one level.
+mod groups;
 mod idle;
 mod level;
 mod reach;
