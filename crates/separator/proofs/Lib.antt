@@ -16,6 +16,7 @@ pub mod RoomLaws
 pub mod LedLaws
 pub mod ArrayLaws
 pub mod ReachLaws
+pub mod PlaceLaws
 pub mod PartingLaws
 pub mod StayLaws
 pub mod LevelsLaws
