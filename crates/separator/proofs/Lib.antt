@@ -17,6 +17,8 @@ pub mod LedLaws
 pub mod ArrayLaws
 pub mod ReachLaws
 pub mod PlaceLaws
+pub mod GroupLaws
+pub mod RisingLaws
 pub mod PartingLaws
 pub mod StayLaws
 pub mod LevelsLaws
@@ -32,4 +34,3 @@ pub mod StandLaws
 pub mod SpareLaws
 pub mod CutLaws
 pub mod ExactLaws
-pub mod GroupLaws
