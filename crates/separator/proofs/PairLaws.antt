@@ -3,7 +3,7 @@ use mathlib.Core.Path.{_≡_, refl, sym, ap, _∙_, subst}
 use mathlib.Core.Logic.{_≢_, ⊎-elim}
 use mathlib.Core.Bool.{Bool, true, false, _&&_}
 use mathlib.Core.List.{List}
-use Prim.Native.Nat.{ℕ, suc, _-_, _^_, _<_, _≤_}
+use Prim.Native.Nat.{ℕ, suc, _+_, _-_, _^_, _<_, _≤_}
 use native.Mathlib.Nat.{not-suc-le-zero}
 use native.Mathlib.Omega.{arith}
 use lib.Bits.{bitAnd, bitOr, and-le-l, and-le-r}
@@ -106,6 +106,36 @@ joining-more s groups g d out into tails heads J l new q =
         (λ (e : k ≡ g). rw (e, getD-set-same out g tails 0 (omega (arith, J .out-size)), getD-set-same into g heads 0 (omega (arith, J .into-size))) new)
         (λ (m : k < g). rw (getD-set-other out g k tails 0 (λ z. omega arith), getD-set-other into g k heads 0 (λ z. omega arith)) (J .each k m))
         (at-or-below (omega arith))
+
+-- the words of q groups, and after them those of the levels below
+pub record Lined (s : ℕ) (groups : List ℕ) (q tails heads : ℕ) (out into : List ℕ) : Type 0 where
+  pub out-size : length out ≡ 64
+  pub into-size : length into ≡ 64
+  pub pairs : (g : ℕ) → g < q → (t c b : List ℕ) (room : ℕ) (G : GroupIn t c b room (groupAt groups g)) → Pairs t c room s (G .pivot) (row out g) (row into g)
+  pub tail : row out q ≡ tails
+  pub head : row into q ≡ heads
+  pub out-inside : Inside out (q + 1) s
+  pub into-inside : Inside into (q + 1) s
+
+inside-more : (s : ℕ) (fits : List ℕ) (q v : ℕ) → q < length fits → ((g : ℕ) → g < q → Part (row fits g) s) → Part v s → Inside (set fits q v) (q + 1) s
+inside-more s fits q v h old new g x l e =
+    ⊎-elim
+    (λ (z : g ≡ q). new x (ap (λ (w : ℕ). has w x) (sym (ap (row (set fits q v)) z ∙ getD-set-same fits q v 0 h)) ∙ e))
+    (λ (m : g < q). old g m x (ap (λ (w : ℕ). has w x) (sym (getD-set-other fits q g v 0 (λ z. omega arith))) ∙ e))
+    (at-or-below (omega arith))
+
+pub lined : (s : ℕ) (groups : List ℕ) (q tails heads : ℕ) (out into : List ℕ) → Joining s groups q out into → q < 64 → Part tails s → Part heads s
+    → Lined s groups q tails heads (set out q tails) (set into q heads)
+lined s groups q tails heads out into J l pt ph =
+    record {
+      out-size = length-set out q tails ∙ J .out-size;
+      into-size = length-set into q heads ∙ J .into-size;
+      pairs = λ g m. rw (getD-set-other out q g tails 0 (λ z. omega arith), getD-set-other into q g heads 0 (λ z. omega arith)) (J .each g m .pairs);
+      tail = getD-set-same out q tails 0 (omega (arith, J .out-size));
+      head = getD-set-same into q heads 0 (omega (arith, J .into-size));
+      out-inside = inside-more s out q tails (omega (arith, J .out-size)) (λ g m. J .each g m .tail) pt;
+      into-inside = inside-more s into q heads (omega (arith, J .into-size)) (λ g m. J .each g m .head) ph;
+    }
 
 -- ---- what is left out
 
