@@ -34,3 +34,4 @@ pub mod StandLaws
 pub mod SpareLaws
 pub mod CutLaws
 pub mod ExactLaws
+pub mod PairLaws
