@@ -35,3 +35,4 @@ pub mod SpareLaws
 pub mod CutLaws
 pub mod ExactLaws
 pub mod PairLaws
+pub mod StrongLaws
