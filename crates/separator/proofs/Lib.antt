@@ -32,3 +32,4 @@ pub mod SpareLaws
 pub mod CutLaws
 pub mod ExactLaws
 pub mod StrongLaws
+pub mod IdleLaws
