@@ -36,3 +36,4 @@ pub mod CutLaws
 pub mod ExactLaws
 pub mod PairLaws
 pub mod StrongLaws
+pub mod IdleLaws
