@@ -37,3 +37,4 @@ pub mod ExactLaws
 pub mod PairLaws
 pub mod StrongLaws
 pub mod IdleLaws
+pub mod FallingLaws
