@@ -31,4 +31,5 @@ pub mod StandLaws
 pub mod SpareLaws
 pub mod CutLaws
 pub mod ExactLaws
+pub mod GroupLaws
 pub mod PairLaws
