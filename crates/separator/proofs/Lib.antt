@@ -34,6 +34,7 @@ pub mod StandLaws
 pub mod SpareLaws
 pub mod CutLaws
 pub mod ExactLaws
+pub mod GroupLaws
 pub mod PairLaws
 pub mod StrongLaws
 pub mod IdleLaws

@@ -14,8 +14,8 @@ use lib.Seq.{getD-set-same, getD-set-other}
 use borrow.Author.Tests.{eqb-true, eqb-false, lt-ltb}
 use Rattle.bitset.specs.Sets.{has, setOf, any}
 use Rattle.bitset.specs.Upto.{row}
-use Rattle.bitset.proofs.BoolLaws.{not-both, cases, and-intro, and-l, and-r, or-cases}
-use Rattle.bitset.proofs.HasLaws.{has-zero, has-and, has-or, member-below}
+use Rattle.bitset.proofs.BoolLaws.{not-both, cases, and-intro}
+use Rattle.bitset.proofs.HasLaws.{has-zero, has-and, member-below}
 use Rattle.bitset.proofs.LeastLaws.{trailing-least}
 use Rattle.bitset.proofs.QuantLaws.{at-or-below, any-intro}
 use Rattle.bitset.proofs.SetLaws.{word-has}
@@ -24,10 +24,9 @@ use Rattle.circuit.specs.Legs.{leg}
 use Rattle.matching.specs.Matching.{Inside, Exact}
 use Rattle.separator.specs.declared.groups.Group.{Group}
 use Rattle.separator.specs.declared.reach.Led.{Led}
-use Rattle.separator.specs.Choice.{step}
 use Rattle.separator.specs.Components.{grow}
 use Rattle.separator.specs.inner.Groups.{Part, Along, Reaches, GroupIn, groupAt, Pair, Pairs, Settles}
-use Rattle.separator.proofs.WalkLaws.{walk-on, grown-walked}
+use Rattle.separator.proofs.GroupLaws.{part-l, both-elim, grown-along, edge-along}
 
 -- ---- stations of a word that have another one in a second word
 
@@ -51,12 +50,13 @@ module _ (own other : ℕ) (h : other < 2 ^ 64) (p : 0 < other) where
       let low : ℕ = trailingZeros 64 other in
       let rest : ℕ = bitAnd other (other - 1) in
       let y : ℕ = trailingZeros 64 rest in
-      let (e, n) = without-least 64 other low p h refl .less y (trailing-least 64 rest more (omega (arith, and-le-l other (other - 1))) .member) in
-      (i,
-      ⊎-elim
-      (λ (q : eqb low x ≡ true). (y, e, λ r. n (r ∙ sym (eqb-true low x q))))
-      (λ (q : eqb low x ≡ false). (low, trailing-least 64 other p h .member, eqb-false low x q))
-      (cases (eqb low x)))
+      let (e, n) = without-least 64 other low p h refl .less y (trailing-least 64 rest more (omega (arith, and-le-l other (other - 1))) .member) in (
+        i,
+        ⊎-elim
+            (λ (q : eqb low x ≡ true). (y, e, λ r. n (r ∙ sym (eqb-true low x q))))
+            (λ (q : eqb low x ≡ false). (low, trailing-least 64 other p h .member, eqb-false low x q))
+            (cases (eqb low x)),
+      )
 
 -- ---- the ends of the pairs by way of one pivot
 
@@ -157,24 +157,17 @@ module _ (fits : List ℕ) (p s : ℕ) (words : List ℕ) (complete : Bool) (spa
 
 -- ---- all stations
 
--- each station is walked to already, or from one of the level that is led to
-pub leads-all : (t : List ℕ) (n seen s : ℕ) (r : Led) (more all : ℕ) → n ≤ 64
-    → more ≡ grow 64 64 (leg t) (bitAnd (bitOr seen s) ((2 ^ 64 - 1) - r .all)) (bitAnd (r .beyond) s) → all ≡ setOf 64 (λ j. ltb j n) → bitOr (r .all) more ≡ all
-    → (wide p : ℕ) → Part seen wide → Part s wide → Reaches t wide p r → (x : ℕ) → x < n → Along t wide p x
-leads-all t n seen s r more all h grows full e wide p ps pl R x l =
-    ⊎-elim (R .walked x) grown (or-cases (has (r .all) x) (has more x) (sym (has-or (r .all) more x) ∙ ap (λ (w : ℕ). has w x) e ∙ word-has 64 _ full x (omega arith) ∙ lt-ltb x n l))
+-- p leads to each station already, or by way of one of the level s
+pub leads-all : (words : List ℕ) (n seen s : ℕ) (r : Led) (more all : ℕ) → n ≤ 64
+    → more ≡ grow 64 64 (leg words) (bitAnd (bitOr seen s) ((2 ^ 64 - 1) - r .all)) (bitAnd (r .beyond) s) → all ≡ setOf 64 (λ j. ltb j n) → bitOr (r .all) more ≡ all
+    → (wide p : ℕ) → Part seen wide → Part s wide → Reaches words wide p r → (x : ℕ) → x < n → Along words wide p x
+leads-all words n seen s r more all h grows full e wide p in-seen in-s R x l =
+    both-elim (Along words wide p) (r .all) more (R .walked)
+    (λ y i. grown-along words room wide p (bitAnd (r .beyond) s) inside (edge-along R s in-s) y (ap (λ (w : ℕ). has w y) (sym grows) ∙ i))
+    x (ap (λ (w : ℕ). has w x) e ∙ word-has 64 _ full x (omega arith) ∙ lt-ltb x n l)
   where
-    start : (k : ℕ) → has (bitAnd (r .beyond) s) k ≡ true → Along t wide p k
-    start k i =
-        let (b, m) = in-and (r .beyond) s k i in
-        let (y, w, d) = R .led k b in
-        step w d (pl k m)
+    room : ℕ
+    room = bitAnd (bitOr seen s) ((2 ^ 64 - 1) - r .all)
 
-    inside : (k : ℕ) → has (bitAnd (bitOr seen s) ((2 ^ 64 - 1) - r .all)) k ≡ true → has wide k ≡ true
-    inside k i =
-        ⊎-elim (ps k) (pl k) (or-cases (has seen k) (has s k) (sym (has-or seen s k) ∙ in-and (bitOr seen s) ((2 ^ 64 - 1) - r .all) k i .0))
-
-    grown : has more x ≡ true → Along t wide p x
-    grown i =
-        let (k, j, w) = grown-walked 64 (leg t) _ (λ y. has wide y ≡ true) inside (bitAnd (r .beyond) s) (λ k j. pl k (in-and (r .beyond) s k j .1)) x (ap (λ (v : ℕ). has v x) (sym grows) ∙ i) in
-        walk-on (start k j) w
+    inside : Part room wide
+    inside y i = both-elim (λ z. has wide z ≡ true) seen s in-seen in-s y (part-l (bitOr seen s) ((2 ^ 64 - 1) - r .all) y i)

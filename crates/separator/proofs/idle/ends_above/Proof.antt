@@ -1,7 +1,6 @@
 -- `idle::ends_above` meets its contract. The invariant: the words of the groups below g have ends of their pairs. Assumes nothing.
 use borrow.Author.Needs.{needs}
 use native.Mathlib.Omega.{arith}
-use mathlib.Core.Path.{_≡_}
 use Prim.Native.Nat.{ℕ, _-_, _<_, _≤_}
 use Rattle.separator.proofs.PairLaws.{Joining, joins-by, joining-start, joining-more}
 use Rattle.separator.proofs.idle.ends_above.Statement.{statement}
