@@ -34,7 +34,6 @@ pub mod StandLaws
 pub mod SpareLaws
 pub mod CutLaws
 pub mod ExactLaws
-pub mod GroupLaws
 pub mod PairLaws
 pub mod StrongLaws
 pub mod IdleLaws
