@@ -31,3 +31,4 @@ pub mod StandLaws
 pub mod SpareLaws
 pub mod CutLaws
 pub mod ExactLaws
+pub mod GroupLaws

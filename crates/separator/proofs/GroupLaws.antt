@@ -1,0 +1,98 @@
+-- What a pivot leads to, in a room that is widened: walks along the words of stations, of sets that are grown, and of the groups that the idle test keeps.
+-- Assumes nothing.
+use mathlib.Core.Path.{_≡_, sym, ap, _∙_, subst}
+use mathlib.Core.Logic.{⊎-elim}
+use mathlib.Core.Bool.{true}
+use mathlib.Core.List.{List}
+use Prim.Native.Nat.{ℕ, _-_, _^_}
+use lib.Bits.{bitAnd, bitOr}
+use Rattle.bitset.specs.Sets.{has}
+use Rattle.bitset.proofs.BoolLaws.{and-l, and-r, or-cases}
+use Rattle.bitset.proofs.HasLaws.{has-and, has-or}
+use Rattle.bitset.proofs.SetLaws.{has-one}
+use Rattle.circuit.specs.Legs.{leg}
+use Rattle.separator.specs.declared.groups.Group.{Group}
+use Rattle.separator.specs.declared.reach.Led.{Led}
+use Rattle.separator.specs.Choice.{stay, step}
+use Rattle.separator.specs.Components.{grow}
+use Rattle.separator.specs.inner.Reach.{LedFrom}
+use Rattle.separator.specs.inner.Groups.{Part, Within, Along, LedTo, Reaches, GroupIn}
+use Rattle.separator.proofs.GrowLaws.{grow-all}
+use Rattle.separator.proofs.LedLaws.{entered-elim}
+use Rattle.separator.proofs.WalkLaws.{walk-map}
+
+-- ---- words as sets
+
+pub part-l : (a b : ℕ) → Part (bitAnd a b) a
+part-l a b x e = and-l (has a x) (has b x) (sym (has-and a b x) ∙ e)
+
+pub part-r : (a b : ℕ) → Part (bitAnd a b) b
+part-r a b x e = and-r (has a x) (has b x) (sym (has-and a b x) ∙ e)
+
+-- what holds of the stations of both words holds of those of their union
+pub both-elim : (P : ℕ → Type 0) (a b : ℕ) → ((x : ℕ) → has a x ≡ true → P x) → ((x : ℕ) → has b x ≡ true → P x) → (x : ℕ) → has (bitOr a b) x ≡ true → P x
+both-elim P a b f g x e = ⊎-elim (f x) (g x) (or-cases (has a x) (has b x) (sym (has-or a b x) ∙ e))
+
+-- ---- a wider room keeps what is known
+
+pub along-wider : (words : List ℕ) (room wide : ℕ) {p x : ℕ} → Part room wide → Along words room p x → Along words wide p x
+along-wider words room wide part w = walk-map (λ i j _ _ r. r) part w
+
+-- and so do words with more in them
+pub along-within : (words nbr : List ℕ) (room : ℕ) {p x : ℕ} → Within words nbr → Along words room p x → Along nbr room p x
+along-within words nbr room within w = walk-map (λ i j _ _ r. within i j r) (λ i e. e) w
+
+pub reaches-wider : {words : List ℕ} {room wide p : ℕ} {r : Led} → Reaches words room p r → Part room wide → Reaches words wide p r
+reaches-wider {words} {room} {wide} R part =
+    record {
+      walked = λ x e. along-wider words room wide part (R .walked x e);
+      led = λ x e. let (y, w, l) = R .led x e in (y, along-wider words room wide part w, l);
+    }
+
+pub group-wider : {rows cols nbr : List ℕ} {room wide : ℕ} {g : Group} → GroupIn rows cols nbr room g → Part room wide → GroupIn rows cols nbr wide g
+group-wider {nbr = nbr} {room = room} {wide = wide} G part =
+    record {
+      pivot = G .pivot;
+      ahead = reaches-wider (G .ahead) part;
+      back = reaches-wider (G .back) part;
+      hangs = λ x e. along-wider nbr room wide part (G .hangs x e);
+    }
+
+-- ---- from a start that p leads to
+
+module _ (words : List ℕ) (room wide p start : ℕ) (part : Part room wide) (from : (x : ℕ) → has start x ≡ true → Along words wide p x) where
+  pub grown-along : (x : ℕ) → has (grow 64 64 (leg words) room start) x ≡ true → Along words wide p x
+  grown-along = grow-all 64 (leg words) room (Along words wide p) (λ a b _ _ r d w. step w r (part b d)) 64 start from
+
+  pub reaches-on : {r : Led} → LedFrom words room start r → Reaches words wide p r
+  reaches-on {r} l = record { walked = walked; led = led }
+    where
+      walked : (x : ℕ) → has (r .all) x ≡ true → Along words wide p x
+      walked x e = grown-along x (ap (λ (w : ℕ). has w x) (sym (l .all)) ∙ e)
+
+      led : (x : ℕ) → has (r .beyond) x ≡ true → LedTo words wide p x
+      led x e = let (d, _, h, q) = entered-elim words (r .all) x (ap (λ (w : ℕ). has w x) (sym (l .beyond)) ∙ e) in (d, walked d h, q)
+
+-- from p itself
+pub reaches-start : {words : List ℕ} {room wide p : ℕ} {r : Led} → LedFrom words room (2 ^ p) r → Part room wide → has wide p ≡ true → Reaches words wide p r
+reaches-start {words} {room} {wide} {p} l part h =
+    reaches-on words room wide p (2 ^ p) part (λ x e. subst (Along words wide p) (sym (has-one p x e)) (stay h)) l
+
+-- from p on, to the stations of a level that are in the word of one that it leads to
+pub edge-along : {words : List ℕ} {wide p : ℕ} {r : Led} → Reaches words wide p r → (level : ℕ) → Part level wide
+    → (x : ℕ) → has (bitAnd (r .beyond) level) x ≡ true → Along words wide p x
+edge-along {r = r} R level part x e = let (y, w, l) = R .led x (part-l (r .beyond) level x e) in step w l (part x (part-r (r .beyond) level x e))
+
+-- on from the stations of a level
+pub reaches-more : {words : List ℕ} (room level : ℕ) {wide p : ℕ} {from more : Led} → Reaches words wide p from → Part room wide → Part level wide
+    → LedFrom words (bitAnd room ((2 ^ 64 - 1) - from .all)) (bitAnd (from .beyond) level) more
+    → Reaches words wide p (record { all = bitOr (from .all) (more .all); beyond = bitOr (from .beyond) (more .beyond) })
+reaches-more {words} room level {wide} {p} {from} {more} R in-room in-level l =
+    record {
+      walked = both-elim (Along words wide p) (from .all) (more .all) (R .walked) (M .walked);
+      led = both-elim (LedTo words wide p) (from .beyond) (more .beyond) (R .led) (M .led);
+    }
+  where
+    M : Reaches words wide p more
+    M = reaches-on words (bitAnd room ((2 ^ 64 - 1) - from .all)) wide p (bitAnd (from .beyond) level)
+        (λ x e. in-room x (part-l room ((2 ^ 64 - 1) - from .all) x e)) (edge-along R level in-level) l
