@@ -11,9 +11,9 @@ use lib.ListN.{length, set, length-set}
 use lib.Seq.{getD-set-same, getD-set-other}
 use Rattle.bitset.specs.Sets.{has}
 use Rattle.bitset.specs.Upto.{row}
-use Rattle.bitset.proofs.BoolLaws.{and-l, and-r, or-cases}
+use Rattle.bitset.proofs.BoolLaws.{and-l, and-r, or-l, or-cases}
 use Rattle.bitset.proofs.HasLaws.{has-and, has-or}
-use Rattle.bitset.proofs.SetLaws.{has-one}
+use Rattle.bitset.proofs.SetLaws.{has-self, has-one}
 use Rattle.circuit.specs.Legs.{leg}
 use Rattle.separator.specs.declared.groups.Group.{Group}
 use Rattle.separator.specs.declared.reach.Led.{Led}
@@ -21,6 +21,7 @@ use Rattle.separator.specs.Choice.{stay, step}
 use Rattle.separator.specs.Components.{grow}
 use Rattle.separator.specs.inner.Reach.{entered, LedFrom}
 use Rattle.separator.specs.inner.Groups.{Part, Within, Along, LedTo, Reaches, GroupIn, groupAt}
+use Rattle.separator.proofs.ComponentLaws.{grow-keeps}
 use Rattle.separator.proofs.GrowLaws.{grow-all}
 use Rattle.separator.proofs.LedLaws.{entered-elim}
 use Rattle.separator.proofs.WalkLaws.{walk-map}
@@ -113,6 +114,48 @@ hanging-along nbr room wide p set edge {near} {r} part from en er =
     first x e =
         let (d, _, h, q) = entered-elim nbr (bitAnd set edge) x (ap (λ (w : ℕ). has w x) (sym en) ∙ part-l near room x e) in
         step (from d (part-l set edge d h)) q (part x (part-r near room x e))
+
+-- ---- groups
+
+module _ {rows cols : List ℕ} (nbr : List ℕ) (in-rows : Within rows nbr) (in-cols : Within cols nbr) where
+  -- what a pivot leads to, and what leads to it, hangs together with it
+  module _ {room p : ℕ} {ahead back : Led} (A : Reaches rows room p ahead) (B : Reaches cols room p back) where
+    ahead-hangs : (x : ℕ) → has (ahead .all) x ≡ true → Along nbr room p x
+    ahead-hangs x e = along-within rows nbr room in-rows (A .walked x e)
+
+    back-hangs : (x : ℕ) → has (back .all) x ≡ true → Along nbr room p x
+    back-hangs x e = along-within cols nbr room in-cols (B .walked x e)
+
+    -- as the code finds it, of a new group and of one that there was
+    pub new-hangs : (x : ℕ) → has (bitOr (ahead .all) (back .all)) x ≡ true → Along nbr room p x
+    new-hangs = both-elim (Along nbr room p) (ahead .all) (back .all) ahead-hangs back-hangs
+
+    pub old-hangs : (part : ℕ) → ((x : ℕ) → has part x ≡ true → Along nbr room p x)
+        → (x : ℕ) → has (bitOr (bitOr part (ahead .all)) (back .all)) x ≡ true → Along nbr room p x
+    old-hangs part h = both-elim (Along nbr room p) (bitOr part (ahead .all)) (back .all) (both-elim (Along nbr room p) part (ahead .all) h ahead-hangs) back-hangs
+
+  -- the group of the station p of `left`
+  module _ {left : ℕ} (p : ℕ) {new : Group} (a : LedFrom rows left (2 ^ p) (new .ahead)) (b : LedFrom cols left (2 ^ p) (new .back))
+      (c : new .part ≡ grow 64 64 (leg nbr) left (bitOr (new .ahead .all) (new .back .all))) where
+    pub started-group : (room : ℕ) → Part left room → has left p ≡ true → GroupIn rows cols nbr room new
+    started-group room part h =
+        let A = reaches-start a part (part p h) in
+        let B = reaches-start b part (part p h) in
+        record {
+          pivot = p;
+          ahead = A;
+          back = B;
+          hangs = λ x e.
+              grown-along nbr left room p (bitOr (new .ahead .all) (new .back .all)) part (new-hangs A B) x (ap (λ (w : ℕ). has w x) (sym c) ∙ e);
+        }
+
+    -- has its pivot
+    pub started-has : p < 64 → has (new .part) p ≡ true
+    started-has l =
+        ap (λ (w : ℕ). has w p) c
+        ∙ grow-keeps 64 (leg nbr) left 64 (bitOr (new .ahead .all) (new .back .all)) p l
+        (has-or (new .ahead .all) (new .back .all) p
+        ∙ or-l (has (new .back .all) p) (ap (λ (w : ℕ). has w p) (a .all) ∙ grow-keeps 64 (leg rows) left 64 (2 ^ p) p l (has-self p)))
 
 -- ---- the array of the groups
 
