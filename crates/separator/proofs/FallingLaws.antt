@@ -4,6 +4,7 @@ use mathlib.Core.Logic.{_⊎_, inl, inr, ⊎-elim}
 use mathlib.Core.Bool.{Bool, true, false}
 use mathlib.Core.List.{List}
 use Prim.Native.Nat.{ℕ, _+_, _^_, _≤_, _<_}
+use native.Mathlib.Nat.{not-suc-le-zero}
 use native.Mathlib.Omega.{arith}
 use lib.Bits.{bitOr}
 use lib.Count.{ones}
@@ -17,14 +18,17 @@ use Rattle.bitset.proofs.SetLaws.{has-self, members-below}
 use Rattle.circuit.specs.Legs.{leg}
 use Rattle.circuit.specs.Verdict.{leaves}
 use Rattle.circuit.specs.inner.Tables.{Columned}
+use Rattle.circuit.proofs.LegsLaws.{column-leg}
 use Rattle.separator.specs.Choice.{Walk}
 use Rattle.separator.specs.Connected.{Free}
 use Rattle.separator.specs.Level.{level}
 use Rattle.separator.specs.inner.Groups.{Along, GroupIn, groupAt, Grouping, Pairs, Settles, Spans}
 use Rattle.separator.specs.inner.Reach.{Linked}
 use Rattle.separator.proofs.IdleLaws.{Certified, level-idle}
-use Rattle.separator.proofs.PlaceLaws.{Levelled, levels-hang}
-use Rattle.separator.proofs.RisingLaws.{PairsAt}
+use Rattle.separator.proofs.PlaceLaws.{Levelled, levels-hang, spans-none, spans-down}
+use Rattle.separator.proofs.RisingLaws.{PairsAt, part-or-l}
+use Rattle.separator.proofs.GroupLaws.{group-wider}
+use Rattle.separator.proofs.WalkLaws.{walk-on, walk-back, walk-map}
 
 module _ {n : ℕ} {t cols nbr : List ℕ} {seed : ℕ} {word : List ℕ} {count : ℕ}
     (T : Columned n t cols) (D : Linked n t nbr) (L : Levelled n t seed word count) where
@@ -108,3 +112,67 @@ module _ {n : ℕ} {t cols nbr : List ℕ} {seed : ℕ} {word : List ℕ} {count
       where
         at-seed : has (row word 0) seed ≡ true
         at-seed = ap (λ (w : ℕ). has w seed) (L .first) ∙ has-self seed
+
+  -- where the seed leads to all stations and all lead to it, any two are joined by a walk
+  pub strong-all : (w : ℕ) → Spans word 0 count w → ((x : ℕ) → x < n → Along t w seed x × Along cols w seed x) → (i j : ℕ) → i < n → j < n → Walk (leg t) (λ x. x < n) i j
+  strong-all w S all i j li lj =
+      walk-on
+      (walk-back (λ a b la lb r. sym (ap (λ (x : List ℕ). leg x a b) (T .columns) ∙ column-leg n t (D .most) b a lb la) ∙ r) (walk-map (λ a b _ _ r. r) low (all i li .1)))
+      (walk-map (λ a b _ _ r. r) low (all j lj .0))
+    where
+      low : (x : ℕ) → has w x ≡ true → x < n
+      low x h = let (k, _, l, e) = S .holds x h in L .below k x l e
+
+-- ---- the loop: the levels from k on are told, and `groups` has the groups above level k
+pub record Falling (n : ℕ) (t cols nbr : List ℕ) (limit : ℕ) (word : List ℕ) (count : ℕ) (groups out into : List ℕ) (q room k : ℕ) : Type 0 where
+  pub wide-groups : length groups ≡ 160
+  pub wide-out : length out ≡ 64
+  pub wide-into : length into ≡ 64
+  pub some : 1 ≤ k
+  pub low : k < count
+  pub spans : Spans word (k + 1) count room
+  pub grouping : Grouping t cols nbr room groups q 0
+  pub told : (j : ℕ) → k ≤ j → j + 1 < count → ones (row word j) ≤ limit → level n t (row word j) ≡ leaves t
+
+module _ {n : ℕ} {t cols nbr : List ℕ} {limit : ℕ} {word : List ℕ} {count : ℕ} where
+  pub falling-start : {groups out into : List ℕ} → length groups ≡ 160 → length out ≡ 64 → length into ≡ 64 → (k : ℕ) → 1 ≤ k → k + 1 ≡ count
+      → Falling n t cols nbr limit word count groups out into 0 0 k
+  falling-start wg wo wi k some e =
+      record {
+        wide-groups = wg;
+        wide-out = wo;
+        wide-into = wi;
+        some = some;
+        low = omega arith;
+        spans = subst (λ (i : ℕ). Spans word i count 0) (sym e) (spans-none count);
+        grouping = record {
+          few = omega arith;
+          each = λ g l. absurd (not-suc-le-zero l);
+          covers = λ x h _. clash (sym h ∙ has-zero x);
+          inside = λ x h. h;
+        };
+        told = λ j a b. absurd (let z : ⊥ = omega arith in z);
+      }
+
+  -- the groups with one level more
+  pub falling-room : {groups out into : List ℕ} {q room k : ℕ} → Falling n t cols nbr limit word count groups out into q room k
+      → (g : ℕ) → g < q → GroupIn t cols nbr (bitOr room (row word k)) (groupAt groups g)
+  falling-room {room = room} {k = k} F g l = group-wider (F .grouping .each g l) (part-or-l room (row word k))
+
+  pub falling-turn : {groups out into : List ℕ} {q room k : ℕ} → Falling n t cols nbr limit word count groups out into q room k → (j : ℕ) → j + 1 ≡ k → 1 ≤ j
+      → {groups′ out′ into′ : List ℕ} {q′ : ℕ} → length groups′ ≡ 160 → length out′ ≡ 64 → length into′ ≡ 64 → Grouping t cols nbr (bitOr room (row word k)) groups′ q′ 0
+      → (ones (row word j) ≤ limit → level n t (row word j) ≡ leaves t)
+      → Falling n t cols nbr limit word count groups′ out′ into′ q′ (bitOr room (row word k)) j
+  falling-turn {room = room} {k = k} F j e some wg wo wi G this =
+      record {
+        wide-groups = wg;
+        wide-out = wo;
+        wide-into = wi;
+        some = some;
+        low = omega (arith, F .low);
+        spans = subst (λ (i : ℕ). Spans word i count (bitOr room (row word k))) (sym e) (spans-down (F .low) (F .spans));
+        grouping = G;
+        told = λ m a b le. ⊎-elim
+            (λ l. let q : j ≡ m = omega arith in subst (λ (m : ℕ). ones (row word m) ≤ limit → level n t (row word m) ≡ leaves t) q this le)
+            (λ g. F .told m g b le) (below? m k);
+      }

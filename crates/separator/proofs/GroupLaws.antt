@@ -1,22 +1,27 @@
 -- What a pivot leads to, in a room that is widened: walks along the words of stations, of sets that are grown, and of the groups that the idle test keeps.
 -- Assumes nothing.
 use mathlib.Core.Path.{_≡_, sym, ap, _∙_, subst}
-use mathlib.Core.Logic.{⊎-elim}
+use mathlib.Core.Logic.{_≢_, ⊎-elim}
 use mathlib.Core.Bool.{true}
 use mathlib.Core.List.{List}
-use Prim.Native.Nat.{ℕ, _-_, _^_}
+use Prim.Native.Nat.{ℕ, _+_, _-_, _*_, _^_, _≤_, _<_}
+use native.Mathlib.Omega.{arith}
 use lib.Bits.{bitAnd, bitOr}
+use lib.ListN.{length, set, length-set}
+use lib.Seq.{getD-set-same, getD-set-other}
 use Rattle.bitset.specs.Sets.{has}
-use Rattle.bitset.proofs.BoolLaws.{and-l, and-r, or-cases}
+use Rattle.bitset.specs.Upto.{row}
+use Rattle.bitset.proofs.BoolLaws.{and-l, and-r, or-l, or-cases}
 use Rattle.bitset.proofs.HasLaws.{has-and, has-or}
-use Rattle.bitset.proofs.SetLaws.{has-one}
+use Rattle.bitset.proofs.SetLaws.{has-self, has-one}
 use Rattle.circuit.specs.Legs.{leg}
 use Rattle.separator.specs.declared.groups.Group.{Group}
 use Rattle.separator.specs.declared.reach.Led.{Led}
 use Rattle.separator.specs.Choice.{stay, step}
 use Rattle.separator.specs.Components.{grow}
-use Rattle.separator.specs.inner.Reach.{LedFrom}
-use Rattle.separator.specs.inner.Groups.{Part, Within, Along, LedTo, Reaches, GroupIn}
+use Rattle.separator.specs.inner.Reach.{entered, LedFrom}
+use Rattle.separator.specs.inner.Groups.{Part, Within, Along, LedTo, Reaches, GroupIn, groupAt}
+use Rattle.separator.proofs.ComponentLaws.{grow-keeps}
 use Rattle.separator.proofs.GrowLaws.{grow-all}
 use Rattle.separator.proofs.LedLaws.{entered-elim}
 use Rattle.separator.proofs.WalkLaws.{walk-map}
@@ -96,3 +101,123 @@ reaches-more {words} room level {wide} {p} {from} {more} R in-room in-level l =
     M : Reaches words wide p more
     M = reaches-on words (bitAnd room ((2 ^ 64 - 1) - from .all)) wide p (bitAnd (from .beyond) level)
         (λ x e. in-room x (part-l room ((2 ^ 64 - 1) - from .all) x e)) (edge-along R level in-level) l
+
+-- a set with what hangs together with it in a room
+pub hanging-along : (nbr : List ℕ) (room wide p set edge : ℕ) {near r : ℕ} → Part room wide → ((x : ℕ) → has set x ≡ true → Along nbr wide p x)
+    → near ≡ entered nbr (bitAnd set edge) → r ≡ grow 64 64 (leg nbr) room (bitAnd near room)
+    → (x : ℕ) → has (bitOr set r) x ≡ true → Along nbr wide p x
+hanging-along nbr room wide p set edge {near} {r} part from en er =
+    both-elim (Along nbr wide p) set r from (λ x e.
+    grown-along nbr room wide p (bitAnd near room) part first x (ap (λ (w : ℕ). has w x) (sym er) ∙ e))
+  where
+    first : (x : ℕ) → has (bitAnd near room) x ≡ true → Along nbr wide p x
+    first x e =
+        let (d, _, h, q) = entered-elim nbr (bitAnd set edge) x (ap (λ (w : ℕ). has w x) (sym en) ∙ part-l near room x e) in
+        step (from d (part-l set edge d h)) q (part x (part-r near room x e))
+
+-- ---- groups
+
+module _ {rows cols : List ℕ} (nbr : List ℕ) (in-rows : Within rows nbr) (in-cols : Within cols nbr) where
+  -- what a pivot leads to, and what leads to it, hangs together with it
+  module _ {room p : ℕ} {ahead back : Led} (A : Reaches rows room p ahead) (B : Reaches cols room p back) where
+    ahead-hangs : (x : ℕ) → has (ahead .all) x ≡ true → Along nbr room p x
+    ahead-hangs x e = along-within rows nbr room in-rows (A .walked x e)
+
+    back-hangs : (x : ℕ) → has (back .all) x ≡ true → Along nbr room p x
+    back-hangs x e = along-within cols nbr room in-cols (B .walked x e)
+
+    -- as the code finds it, of a new group and of one that there was
+    pub new-hangs : (x : ℕ) → has (bitOr (ahead .all) (back .all)) x ≡ true → Along nbr room p x
+    new-hangs = both-elim (Along nbr room p) (ahead .all) (back .all) ahead-hangs back-hangs
+
+    pub old-hangs : (part : ℕ) → ((x : ℕ) → has part x ≡ true → Along nbr room p x)
+        → (x : ℕ) → has (bitOr (bitOr part (ahead .all)) (back .all)) x ≡ true → Along nbr room p x
+    old-hangs part h = both-elim (Along nbr room p) (bitOr part (ahead .all)) (back .all) (both-elim (Along nbr room p) part (ahead .all) h ahead-hangs) back-hangs
+
+  -- the group of the station p of `left`
+  module _ {left : ℕ} (p : ℕ) {new : Group} (a : LedFrom rows left (2 ^ p) (new .ahead)) (b : LedFrom cols left (2 ^ p) (new .back))
+      (c : new .part ≡ grow 64 64 (leg nbr) left (bitOr (new .ahead .all) (new .back .all))) where
+    pub started-group : (room : ℕ) → Part left room → has left p ≡ true → GroupIn rows cols nbr room new
+    started-group room part h =
+        let A = reaches-start a part (part p h) in
+        let B = reaches-start b part (part p h) in
+        record {
+          pivot = p;
+          ahead = A;
+          back = B;
+          hangs = λ x e.
+              grown-along nbr left room p (bitOr (new .ahead .all) (new .back .all)) part (new-hangs A B) x (ap (λ (w : ℕ). has w x) (sym c) ∙ e);
+        }
+
+    -- has its pivot
+    pub started-has : p < 64 → has (new .part) p ≡ true
+    started-has l =
+        ap (λ (w : ℕ). has w p) c
+        ∙ grow-keeps 64 (leg nbr) left 64 (bitOr (new .ahead .all) (new .back .all)) p l
+        (has-or (new .ahead .all) (new .back .all) p
+        ∙ or-l (has (new .back .all) p) (ap (λ (w : ℕ). has w p) (a .all) ∙ grow-keeps 64 (leg rows) left 64 (2 ^ p) p l (has-self p)))
+
+-- ---- the array of the groups
+
+-- a group by its words
+group-is : (l : List ℕ) (g : ℕ) (new : Group) → row l (5 * g) ≡ new .part → row l (5 * g + 1) ≡ new .ahead .all → row l (5 * g + 2) ≡ new .ahead .beyond
+    → row l (5 * g + 3) ≡ new .back .all → row l (5 * g + 4) ≡ new .back .beyond → groupAt l g ≡ new
+group-is l g new a b c d e = simp (a, b, c, d, e)
+
+-- these words stored
+module _ (l : List ℕ) (g : ℕ) (new : Group) where
+  abbrev one : List ℕ
+  one = set l (5 * g) (new .part)
+
+  abbrev two : List ℕ
+  two = set one (5 * g + 1) (new .ahead .all)
+
+  abbrev three : List ℕ
+  three = set two (5 * g + 2) (new .ahead .beyond)
+
+  abbrev four : List ℕ
+  four = set three (5 * g + 3) (new .back .all)
+
+  abbrev pub stored : List ℕ
+  stored = set four (5 * g + 4) (new .back .beyond)
+
+  pub stored-length : length stored ≡ length l
+  stored-length = simp length-set
+
+  -- a place from m to 4 of the group's five
+  abbrev From : ℕ → ℕ → Type 0
+  From m j = (5 * g + m ≤ j) × (j < 5 * g + 5)
+
+  -- what stands at another place was there before the stores from m on
+  past-four : (j : ℕ) → (From 4 j → ⊥) → row stored j ≡ row four j
+  past-four j out = getD-set-other four (5 * g + 4) j (new .back .beyond) 0 (λ e. out (omega arith))
+
+  past-three : (j : ℕ) → (From 3 j → ⊥) → row stored j ≡ row three j
+  past-three j out = past-four j (λ f. out (omega arith)) ∙ getD-set-other three (5 * g + 3) j (new .back .all) 0 (λ e. out (omega arith))
+
+  past-two : (j : ℕ) → (From 2 j → ⊥) → row stored j ≡ row two j
+  past-two j out = past-three j (λ f. out (omega arith)) ∙ getD-set-other two (5 * g + 2) j (new .ahead .beyond) 0 (λ e. out (omega arith))
+
+  past-one : (j : ℕ) → (From 1 j → ⊥) → row stored j ≡ row one j
+  past-one j out = past-two j (λ f. out (omega arith)) ∙ getD-set-other one (5 * g + 1) j (new .ahead .all) 0 (λ e. out (omega arith))
+
+  past-all : (j : ℕ) → (From 0 j → ⊥) → row stored j ≡ row l j
+  past-all j out = past-one j (λ f. out (omega arith)) ∙ getD-set-other l (5 * g) j (new .part) 0 (λ e. out (omega arith))
+
+  pub stored-other : (h : ℕ) → h ≢ g → groupAt stored h ≡ groupAt l h
+  stored-other h away =
+      group-is stored h (groupAt l h)
+      (past-all (5 * h) (λ f. away (omega arith)))
+      (past-all (5 * h + 1) (λ f. away (omega arith)))
+      (past-all (5 * h + 2) (λ f. away (omega arith)))
+      (past-all (5 * h + 3) (λ f. away (omega arith)))
+      (past-all (5 * h + 4) (λ f. away (omega arith)))
+
+  pub stored-same : 5 * g + 4 < length l → groupAt stored g ≡ new
+  stored-same m =
+      group-is stored g new
+      (past-one (5 * g) (λ f. omega arith) ∙ getD-set-same l (5 * g) (new .part) 0 (omega arith))
+      (past-two (5 * g + 1) (λ f. omega arith) ∙ getD-set-same one (5 * g + 1) (new .ahead .all) 0 (simp length-set (omega arith)))
+      (past-three (5 * g + 2) (λ f. omega arith) ∙ getD-set-same two (5 * g + 2) (new .ahead .beyond) 0 (simp length-set (omega arith)))
+      (past-four (5 * g + 3) (λ f. omega arith) ∙ getD-set-same three (5 * g + 3) (new .back .all) 0 (simp length-set (omega arith)))
+      (getD-set-same four (5 * g + 4) (new .back .beyond) 0 (simp length-set (omega arith)))
