@@ -4,15 +4,17 @@ use mathlib.Core.Path.{_≡_, refl, sym, ap, _∙_, subst}
 use mathlib.Core.Logic.{_≢_, _⊎_, inl, inr, ⊎-elim}
 use mathlib.Core.Bool.{Bool, true, false, not, _&&_}
 use mathlib.Core.List.{List}
-use Prim.Native.Nat.{ℕ, suc, _^_, _≤_, _<_}
+use Prim.Native.Nat.{ℕ, suc, _+_, _^_, _≤_, _<_}
 use native.Mathlib.Bridge.{le-prop}
 use native.Mathlib.Nat.{not-le-of-lt}
+use native.Mathlib.Numerals.{add-one}
+use native.Mathlib.Omega.{arith}
 use lib.ListN.{length}
 use Rattle.bitset.specs.Sets.{has}
 use Rattle.bitset.specs.Upto.{row}
 use Rattle.bitset.proofs.BoolLaws.{not-both, cases, and-intro, cond-true}
 use Rattle.bitset.proofs.HasLaws.{member-below}
-use Rattle.bitset.proofs.QuantLaws.{below?, any-intro}
+use Rattle.bitset.proofs.QuantLaws.{below?, at-or-below, any-intro}
 use Rattle.circuit.specs.Legs.{leg, columns, without}
 use Rattle.circuit.specs.Verdict.{saysNone, leaves}
 use Rattle.circuit.specs.inner.Tables.{Columned}
@@ -235,3 +237,42 @@ module _ (n : ℕ) (t cols nbr : List ℕ) (T : Columned n t cols) (L : Linked n
       pub level-idle : level n t s ≡ leaves t
       unfolding level
       level-idle = cond-true (leaves (without n t (struck n s d))) (saysNone t) goes ∙ ap leaves whole
+
+  -- ---- q groups and one more
+
+  module _ (q : ℕ) (out into : List ℕ) (each : (g : ℕ) → g < q → Certified n t cols nbr s (row out g) (row into g))
+      (more : Certified n t cols nbr s (row out q) (row into q))
+      (covers : (x : ℕ) → Free n s x → ((g : ℕ) × (l : g < q) × (has (each g l .part) x ≡ true)) ⊎ (has (more .part) x ≡ true)) where
+    abbrev one-of : (g : ℕ) → (g ≡ q) ⊎ (g < q) → Certified n t cols nbr s (row out g) (row into g)
+    one-of g (inl e) =
+        record {
+          room = more .room;
+          pivot = more .pivot;
+          part = more .part;
+          free = more .free;
+          hangs = more .hangs;
+          pairs = subst (λ (h : ℕ). Pairs t cols (more .room) s (more .pivot) (row out h) (row into h)) (sym e) (more .pairs);
+        }
+    one-of g (inr l) = each g l
+
+    which : (g : ℕ) → g < q + 1 → (g ≡ q) ⊎ (g < q)
+    which g l = at-or-below (subst (λ (m : ℕ). g < m) (add-one q) l)
+
+    at-more : (x : ℕ) (b : (q ≡ q) ⊎ (q < q)) → has (more .part) x ≡ true → has (one-of q b .part) x ≡ true
+    at-more x (inl e) h = h
+    at-more x (inr l) h = let no : ⊥ = omega arith in absurd no
+
+    at-each : (g x : ℕ) (l : g < q) (b : (g ≡ q) ⊎ (g < q)) → has (each g l .part) x ≡ true → has (one-of g b .part) x ≡ true
+    at-each g x l (inl e) h = let no : ⊥ = omega arith in absurd no
+    at-each g x l (inr k) h = subst (λ (z : g < q). has (each g z .part) x ≡ true) (le-prop l k) h
+
+    found : (x : ℕ) → Free n s x → (g : ℕ) × (l : g < q + 1) × (has (one-of g (which g l) .part) x ≡ true)
+    found x f =
+        ⊎-elim
+        (λ (g, l, h). let k : g < q + 1 = omega arith in (g, k, at-each g x l (which g k) h))
+        (λ h. let k : q < q + 1 = omega arith in (q, k, at-more x (which q k) h))
+        (covers x f)
+
+    pub level-idle-more : (x : ℕ) × Free n s x → ((i j : ℕ) → i < n → j < n → Walk (leg t) (λ x. x < n) i j)
+        → Settles out (q + 1) s cols → Settles into (q + 1) s t → level n t s ≡ leaves t
+    level-idle-more = level-idle (q + 1) out into (λ g l. one-of g (which g l)) found
