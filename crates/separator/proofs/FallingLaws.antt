@@ -24,7 +24,7 @@ use Rattle.separator.specs.Connected.{Free}
 use Rattle.separator.specs.Level.{level}
 use Rattle.separator.specs.inner.Groups.{Along, GroupIn, groupAt, Grouping, Pairs, Settles, Spans}
 use Rattle.separator.specs.inner.Reach.{Linked}
-use Rattle.separator.proofs.IdleLaws.{Certified, level-idle}
+use Rattle.separator.proofs.IdleLaws.{Certified, level-idle-more}
 use Rattle.separator.proofs.PlaceLaws.{Levelled, levels-hang, spans-none, spans-down}
 use Rattle.separator.proofs.RisingLaws.{PairsAt, part-or-l}
 use Rattle.separator.proofs.GroupLaws.{group-wider}
@@ -42,16 +42,14 @@ module _ {n : ℕ} {t cols nbr : List ℕ} {seed : ℕ} {word : List ℕ} {count
       (G : Grouping t cols nbr room groups q 0) (tails heads : List ℕ) (P : PairsAt t cols word seed tails heads k)
       (out into : List ℕ) (above : (g : ℕ) → g < q → (H : GroupIn t cols nbr room (groupAt groups g)) → Pairs t cols room (row word k) (H .pivot) (row out g) (row into g))
       (last-out : row out q ≡ row tails k) (last-into : row into q ≡ row heads k) where
-    s : ℕ
+    abbrev s : ℕ
     s = row word k
 
-    lower : ℕ
+    abbrev lower : ℕ
     lower = P .0
 
-    -- the group at each place: those above, and at last the levels below
-    certified : (g : ℕ) → (g < q) ⊎ (q ≤ g) → g < q + 1 → Certified n t cols nbr s (row out g) (row into g)
-    unfolding s lower
-    certified g (inl l) _ =
+    each : (g : ℕ) → g < q → Certified n t cols nbr s (row out g) (row into g)
+    each g l =
         let H = G .each g l in
         record {
           room = room;
@@ -61,8 +59,10 @@ module _ {n : ℕ} {t cols nbr : List ℕ} {seed : ℕ} {word : List ℕ} {count
           hangs = H .hangs;
           pairs = above g l H;
         }
-    certified g (inr h) l =
-        let e : g ≡ q = omega arith in
+
+    -- the levels below, one group with the seed
+    below : Certified n t cols nbr s (row out q) (row into q)
+    below =
         record {
           room = lower;
           pivot = seed;
@@ -70,45 +70,27 @@ module _ {n : ℕ} {t cols nbr : List ℕ} {seed : ℕ} {word : List ℕ} {count
           free = spans-free k 0 k lower (omega arith) (omega arith) (λ m a b e. omega arith) (P .1);
           hangs = levels-hang D L k lower (omega arith) (P .1);
           pairs =
-              subst (λ (x : ℕ). Pairs t cols lower s seed x (row into g)) (sym (ap (row out) e ∙ last-out))
-              (subst (λ (x : ℕ). Pairs t cols lower s seed (row tails k) x) (sym (ap (row into) e ∙ last-into)) (P .2));
+              subst (λ (x : ℕ). Pairs t cols lower s seed x (row into q)) (sym last-out)
+              (subst (λ (x : ℕ). Pairs t cols lower s seed (row tails k) x) (sym last-into) (P .2));
         }
 
-    abbrev group : (g : ℕ) → g < q + 1 → Certified n t cols nbr s (row out g) (row into g)
-    group g l = certified g (below? g q) l
-
-    part-above : (g x : ℕ) (l : g < q + 1) (b : (g < q) ⊎ (q ≤ g)) → g < q → has (groupAt groups g .part) x ≡ true → has (certified g b l .part) x ≡ true
-    unfolding certified
-    part-above g x l (inl _) k h = h
-    part-above g x l (inr f) k h = absurd (let z : ⊥ = omega arith in z)
-
-    part-below : (x : ℕ) (l : q < q + 1) (b : (q < q) ⊎ (q ≤ q)) → has lower x ≡ true → has (certified q b l .part) x ≡ true
-    unfolding certified
-    part-below x l (inl k) h = absurd (let z : ⊥ = omega arith in z)
-    part-below x l (inr f) h = h
-
     -- a station outside the level is above it or below it
-    covers : (x : ℕ) → Free n s x → (g : ℕ) × (l : g < q + 1) × (has (group g l .part) x ≡ true)
-    unfolding s lower
+    covers : (x : ℕ) → Free n s x → ((g : ℕ) × (l : g < q) × (has (each g l .part) x ≡ true)) ⊎ (has (below .part) x ≡ true)
+    unfolding each below
     covers x (lx, o) =
         let (m, lm, e) = L .covers x lx in
         ⊎-elim
-        (λ a. let l : q < q + 1 = omega arith in (q, l, part-below x l (below? q q) (P .1 .found m x (omega arith) a e)))
+        (λ a. inr (P .1 .found m x (omega arith) a e))
         (λ b.
         let apart : m ≡ k → ⊥ = λ f. not-both (subst (λ (m : ℕ). has (row word m) x ≡ true) f e) o in
-        let (g, lg, h) = G .covers x (S .found m x (omega (arith, apart)) lm e) (has-zero x) in
-        let l : g < q + 1 = omega arith in
-        (g, l, part-above g x l (below? g q) lg h))
+        inl (G .covers x (S .found m x (omega (arith, apart)) lm e) (has-zero x)))
         (below? m k)
 
     -- so the level leaves the table
-    pub level-told : ((i j : ℕ) → i < n → j < n → Walk (leg t) (λ x. x < n) i j) → Settles out (q + 1) (row word k) cols → Settles into (q + 1) (row word k) t
-        → level n t (row word k) ≡ leaves t
-    unfolding s
-    level-told strong outs ins =
-        level-idle n t cols nbr T D (row word k) (members-below n (row word k) (λ x. L .below k x (omega arith))) (q + 1) out into group covers
-        (seed, (L .below 0 seed (omega arith) at-seed, is-false (has (row word k) seed) (λ e. let z : 0 ≡ k = L .once 0 k seed (omega arith) (omega arith) at-seed e in omega arith)))
-        strong outs ins
+    pub level-told : ((i j : ℕ) → i < n → j < n → Walk (leg t) (λ x. x < n) i j) → Settles out (q + 1) s cols → Settles into (q + 1) s t → level n t s ≡ leaves t
+    level-told =
+        level-idle-more n t cols nbr T D s (members-below n s (λ x. L .below k x (omega arith))) q out into each below covers
+        (seed, (L .below 0 seed (omega arith) at-seed, is-false (has s seed) (λ e. let z : 0 ≡ k = L .once 0 k seed (omega arith) (omega arith) at-seed e in omega arith)))
       where
         at-seed : has (row word 0) seed ≡ true
         at-seed = ap (λ (w : ℕ). has w seed) (L .first) ∙ has-self seed
