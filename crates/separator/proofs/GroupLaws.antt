@@ -2,7 +2,7 @@
 -- Assumes nothing.
 use mathlib.Core.Path.{_≡_, sym, ap, _∙_, subst}
 use mathlib.Core.Logic.{_≢_, ⊎-elim}
-use mathlib.Core.Bool.{true}
+use mathlib.Core.Bool.{true, false, not}
 use mathlib.Core.List.{List}
 use Prim.Native.Nat.{ℕ, _+_, _-_, _*_, _^_, _≤_, _<_}
 use native.Mathlib.Omega.{arith}
@@ -11,16 +11,17 @@ use lib.ListN.{length, set, length-set}
 use lib.Seq.{getD-set-same, getD-set-other}
 use Rattle.bitset.specs.Sets.{has}
 use Rattle.bitset.specs.Upto.{row}
-use Rattle.bitset.proofs.BoolLaws.{and-l, and-r, or-l, or-cases}
-use Rattle.bitset.proofs.HasLaws.{has-and, has-or}
-use Rattle.bitset.proofs.SetLaws.{has-self, has-one}
+use Rattle.bitset.proofs.BoolLaws.{not-both, cases, and-intro, and-l, and-r, or-l, or-cases}
+use Rattle.bitset.proofs.QuantLaws.{below?}
+use Rattle.bitset.proofs.HasLaws.{has-and, has-or, member-below}
+use Rattle.bitset.proofs.SetLaws.{has-diff, has-self, has-one}
 use Rattle.circuit.specs.Legs.{leg}
 use Rattle.separator.specs.declared.groups.Group.{Group}
 use Rattle.separator.specs.declared.reach.Led.{Led}
 use Rattle.separator.specs.Choice.{stay, step}
 use Rattle.separator.specs.Components.{grow}
 use Rattle.separator.specs.inner.Reach.{entered, LedFrom}
-use Rattle.separator.specs.inner.Groups.{Part, Within, Along, LedTo, Reaches, GroupIn, groupAt}
+use Rattle.separator.specs.inner.Groups.{Part, Within, Along, LedTo, Reaches, GroupIn, groupAt, Grouping}
 use Rattle.separator.proofs.ComponentLaws.{grow-keeps}
 use Rattle.separator.proofs.GrowLaws.{grow-all}
 use Rattle.separator.proofs.LedLaws.{entered-elim}
@@ -221,3 +222,36 @@ module _ (l : List ℕ) (g : ℕ) (new : Group) where
       (past-three (5 * g + 2) (λ f. omega arith) ∙ getD-set-same two (5 * g + 2) (new .ahead .beyond) 0 (simp length-set (omega arith)))
       (past-four (5 * g + 3) (λ f. omega arith) ∙ getD-set-same three (5 * g + 3) (new .back .all) 0 (simp length-set (omega arith)))
       (getD-set-same four (5 * g + 4) (new .back .beyond) 0 (simp length-set (omega arith)))
+
+-- ---- the first groups of an array
+
+pub grouping-none : (rows cols nbr : List ℕ) (room : ℕ) (words : List ℕ) → Grouping rows cols nbr room words 0 room
+grouping-none rows cols nbr room words =
+    record { few = omega arith; each = λ g l. absurd (omega arith); covers = λ x e z. absurd (not-both e z); inside = λ x e. e }
+
+-- one more
+pub grouping-more : {rows cols nbr words more : List ℕ} {room count left : ℕ} {new : Group} → Grouping rows cols nbr room words count left
+    → GroupIn rows cols nbr room new → count < 32 → groupAt more count ≡ new → ((h : ℕ) → h < 32 → h ≢ count → groupAt more h ≡ groupAt words h)
+    → left < 2 ^ 64 → new .part < 2 ^ 64 → Grouping rows cols nbr room more (count + 1) (bitAnd left ((2 ^ 64 - 1) - new .part))
+grouping-more {rows} {cols} {nbr} {words} {more} {room} {count} {left} {new} Q G few same other hl hp =
+    record { few = omega arith; each = each; covers = covers; inside = λ x e. Q .inside x (part-l left ((2 ^ 64 - 1) - new .part) x e) }
+  where
+    kept : (g : ℕ) → g < count → groupAt more g ≡ groupAt words g
+    kept g l = other g (omega arith) (λ q. omega arith)
+
+    each : (g : ℕ) → g < count + 1 → GroupIn rows cols nbr room (groupAt more g)
+    each g l =
+        ⊎-elim
+        (λ m. subst (GroupIn rows cols nbr room) (sym (kept g m)) (Q .each g m))
+        (λ m. let q : count ≡ g = omega arith in subst (λ (h : ℕ). GroupIn rows cols nbr room (groupAt more h)) q (subst (GroupIn rows cols nbr room) (sym same) G))
+        (below? g count)
+
+    covers : (x : ℕ) → has room x ≡ true → has (bitAnd left ((2 ^ 64 - 1) - new .part)) x ≡ false → (g : ℕ) × (g < count + 1) × (has (groupAt more g .part) x ≡ true)
+    covers x e z = ⊎-elim taken (λ f. let (g, m, h) = Q .covers x e f in (g, omega arith, ap (λ (k : Group). has (k .part) x) (kept g m) ∙ h)) (cases (has left x))
+      where
+        taken : has left x ≡ true → (g : ℕ) × (g < count + 1) × (has (groupAt more g .part) x ≡ true)
+        taken f =
+            ⊎-elim
+            (λ h. (count, omega arith, ap (λ (k : Group). has (k .part) x) same ∙ h))
+            (λ h. absurd (not-both (has-diff 64 left (new .part) x hp (member-below 64 left x hl f) ∙ and-intro f (ap not h)) z))
+            (cases (has (new .part) x))
