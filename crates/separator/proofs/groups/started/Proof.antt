@@ -1,7 +1,7 @@
 -- `groups::started` meets its contract. Assumes nothing.
 use borrow.Author.Needs.{needs}
-use mathlib.Core.Path.{_≡_, subst}
-use Prim.Native.Nat.{ℕ, _^_}
+use mathlib.Core.Path.{subst}
+use Prim.Native.Nat.{ℕ}
 use denote.Ref.{now}
 use native.Mathlib.Omega.{arith}
 use lib.Count.{trailingZeros}
