@@ -172,7 +172,10 @@ pub fn is_idle(
         × (unreached n (levels n (now rows) seed) ≡ 0) × (count ≤ 64) × (length (now level) ≡ 64) ⌝ }
     ensures { λ r. ⌜ (r ≡ true → Idle n (now (rows .entry)) limit (inner (levels n (now (rows .entry)) seed))) ⌝ }
 {
-    if (count < 2) | (33 < count) {
+    if count < 2 {
+        return false;
+    }
+    if 33 < count {
         return false;
     }
     let mut tails = [0u64; 34];
