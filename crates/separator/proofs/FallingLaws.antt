@@ -1,32 +1,40 @@
 -- Falling through the levels from the last: the groups of the stations above a level, and the levels that are told to leave the table. Assumes nothing.
 use mathlib.Core.Path.{_≡_, sym, ap, _∙_, subst}
 use mathlib.Core.Logic.{_⊎_, inl, inr, ⊎-elim}
-use mathlib.Core.Bool.{Bool, true, false}
+use mathlib.Core.Bool.{true}
 use mathlib.Core.List.{List}
-use Prim.Native.Nat.{ℕ, _+_, _^_, _≤_, _<_}
+use Prim.Native.Nat.{ℕ, zero, suc, _+_, _≤_, _<_}
 use native.Mathlib.Nat.{not-suc-le-zero}
 use native.Mathlib.Omega.{arith}
 use lib.Bits.{bitOr}
 use lib.Count.{ones}
-use lib.ListN.{length}
-use Rattle.bitset.specs.Sets.{has}
-use Rattle.bitset.specs.Upto.{row}
+use lib.ListN.{length, take, List·getD-eq-default}
+use borrow.Author.Tests.{leb-true}
+use Rattle.bitset.specs.Sets.{has, size}
+use Rattle.bitset.specs.Upto.{Each, row}
 use Rattle.bitset.proofs.BoolLaws.{is-false, not-both, clash}
 use Rattle.bitset.proofs.QuantLaws.{below?}
 use Rattle.bitset.proofs.HasLaws.{has-zero}
-use Rattle.bitset.proofs.SetLaws.{has-self, members-below}
-use Rattle.circuit.specs.Legs.{leg}
+use Rattle.bitset.proofs.SetLaws.{setOf-elim, has-self, members-below}
+use Rattle.bitset.proofs.OnesLaws.{size-ones}
+use Rattle.bitset.proofs.UptoLaws.{getD-upto, length-upto}
+use Rattle.circuit.proofs.StateLaws.{stray-legs}
+use Rattle.circuit.specs.Legs.{leg, col, columns}
 use Rattle.circuit.specs.Verdict.{leaves}
 use Rattle.circuit.specs.inner.Tables.{Columned}
-use Rattle.circuit.proofs.LegsLaws.{column-leg}
+use Rattle.circuit.proofs.LegsLaws.{column-leg, neighbours-leg, neighbours-swap}
 use Rattle.separator.specs.Choice.{Walk}
 use Rattle.separator.specs.Connected.{Free}
 use Rattle.separator.specs.Level.{level}
-use Rattle.separator.specs.inner.Groups.{Along, GroupIn, groupAt, Grouping, Pairs, Settles, Spans}
+use Rattle.separator.specs.inner.Idle.{Idle}
+use Rattle.separator.specs.Levels.{levels, inner}
+use Rattle.separator.proofs.InnerLaws.{innerFrom, inner-start, inner-step, inner-end}
+use Rattle.separator.proofs.NeighbourLaws.{linked-intro}
+use Rattle.separator.specs.inner.Groups.{Within, Along, GroupIn, groupAt, Grouping, Pairs, Settles, Spans}
 use Rattle.separator.specs.inner.Reach.{Linked}
 use Rattle.separator.proofs.IdleLaws.{Certified, level-idle-more}
 use Rattle.separator.proofs.PlaceLaws.{Levelled, levels-hang, spans-none, spans-down}
-use Rattle.separator.proofs.RisingLaws.{PairsAt, part-or-l}
+use Rattle.separator.proofs.RisingLaws.{part-or-l}
 use Rattle.separator.proofs.GroupLaws.{group-wider}
 use Rattle.separator.proofs.WalkLaws.{walk-on, walk-back, walk-map}
 
@@ -39,9 +47,9 @@ module _ {n : ℕ} {t cols nbr : List ℕ} {seed : ℕ} {word : List ℕ} {count
       (L .below m x (omega arith) e, is-false (has (row word k) x) (λ f. apart m a b (L .once m k x (omega arith) lk e f)))
 
   module _ (k : ℕ) (some : 1 ≤ k) (low : k + 1 < count) (room q : ℕ) (groups : List ℕ) (S : Spans word (k + 1) count room)
-      (G : Grouping t cols nbr room groups q 0) (tails heads : List ℕ) (P : PairsAt t cols word seed tails heads k)
+      (G : Grouping t cols nbr room groups q 0) (tails heads : ℕ) (P : (w : ℕ) × Spans word 0 k w × Pairs t cols w (row word k) seed tails heads)
       (out into : List ℕ) (above : (g : ℕ) → g < q → (H : GroupIn t cols nbr room (groupAt groups g)) → Pairs t cols room (row word k) (H .pivot) (row out g) (row into g))
-      (last-out : row out q ≡ row tails k) (last-into : row into q ≡ row heads k) where
+      (last-out : row out q ≡ tails) (last-into : row into q ≡ heads) where
     abbrev s : ℕ
     s = row word k
 
@@ -71,7 +79,7 @@ module _ {n : ℕ} {t cols nbr : List ℕ} {seed : ℕ} {word : List ℕ} {count
           hangs = levels-hang D L k lower (omega arith) (P .1);
           pairs =
               subst (λ (x : ℕ). Pairs t cols lower s seed x (row into q)) (sym last-out)
-              (subst (λ (x : ℕ). Pairs t cols lower s seed (row tails k) x) (sym last-into) (P .2));
+              (subst (λ (x : ℕ). Pairs t cols lower s seed tails x) (sym last-into) (P .2));
         }
 
     -- a station outside the level is above it or below it
@@ -141,6 +149,10 @@ module _ {n : ℕ} {t cols nbr : List ℕ} {limit : ℕ} {word : List ℕ} {coun
       → (g : ℕ) → g < q → GroupIn t cols nbr (bitOr room (row word k)) (groupAt groups g)
   falling-room {room = room} {k = k} F g l = group-wider (F .grouping .each g l) (part-or-l room (row word k))
 
+  pub falling-spans : {groups out into : List ℕ} {q room k : ℕ} → Falling n t cols nbr limit word count groups out into q room k → (j : ℕ) → j + 1 ≡ k
+      → Spans word (j + 1) count (bitOr room (row word k))
+  falling-spans {room = room} {k = k} F j e = subst (λ (i : ℕ). Spans word i count (bitOr room (row word k))) (sym e) (spans-down (F .low) (F .spans))
+
   pub falling-turn : {groups out into : List ℕ} {q room k : ℕ} → Falling n t cols nbr limit word count groups out into q room k → (j : ℕ) → j + 1 ≡ k → 1 ≤ j
       → {groups′ out′ into′ : List ℕ} {q′ : ℕ} → length groups′ ≡ 160 → length out′ ≡ 64 → length into′ ≡ 64 → Grouping t cols nbr (bitOr room (row word k)) groups′ q′ 0
       → (ones (row word j) ≤ limit → level n t (row word j) ≡ leaves t)
@@ -152,9 +164,62 @@ module _ {n : ℕ} {t cols nbr : List ℕ} {limit : ℕ} {word : List ℕ} {coun
         wide-into = wi;
         some = some;
         low = omega (arith, F .low);
-        spans = subst (λ (i : ℕ). Spans word i count (bitOr room (row word k))) (sym e) (spans-down (F .low) (F .spans));
+        spans = falling-spans F j e;
         grouping = G;
         told = λ m a b le. ⊎-elim
             (λ l. let q : j ≡ m = omega arith in subst (λ (m : ℕ). ones (row word m) ≤ limit → level n t (row word m) ≡ leaves t) q this le)
             (λ g. F .told m g b le) (below? m k);
       }
+
+-- ---- rows, columns and neighbours of one table
+
+module _ {n : ℕ} {t cols nbr : List ℕ} (T : Columned n t cols) (D : Linked n t nbr) where
+  leg-low : (i j : ℕ) → leg t i j ≡ true → (i < n) × (j < n)
+  unfolding leg
+  leg-low i j e =
+      ⊎-elim
+      (λ l. let a = stray-legs n t (T .clean) i j l e in (a .0, a .1))
+      (λ g. clash (sym e ∙ ap (λ (w : ℕ). has w j) (List·getD-eq-default t 0 (omega (arith, T .len))) ∙ has-zero j))
+      (below? i 64)
+
+  pub rows-within : Within t nbr
+  rows-within i j e = let (li, lj) = leg-low i j e in linked-intro D i j li lj (neighbours-leg t i j e)
+
+  pub cols-within : Within cols nbr
+  unfolding leg col
+  cols-within i j e =
+      ⊎-elim
+      (λ l.
+      let back = setOf-elim n (λ k. leg t k i) j (sym (ap (λ (w : ℕ). has w j) (at i ∙ getD-upto 64 (col n t) 0 i l)) ∙ e) .1 in
+      let (lj, li) = leg-low j i back in
+      linked-intro D i j li lj (neighbours-swap t j i (neighbours-leg t j i back)))
+      (λ g. clash (sym e ∙ ap (λ (w : ℕ). has w j) (at i ∙ List·getD-eq-default (columns n t) 0 (omega (arith, length-upto 64 (col n t)))) ∙ has-zero j))
+      (below? i 64)
+    where
+      at : (i : ℕ) → row cols i ≡ row (columns n t) i
+      at i = ap (λ (ws : List ℕ). row ws i) (T .columns)
+
+-- ---- when the loop is done, all inner levels are told
+
+inner-each : (P : ℕ → Type 0) (level : List ℕ) (count : ℕ) → count ≤ length level → ((j : ℕ) → 1 ≤ j → j + 1 < count → P (row level j))
+    → (f j : ℕ) → 1 ≤ j → count ≤ j + f + 1 → Each P (innerFrom j count level)
+inner-each P level count long told zero j some h = subst (Each P) (sym (inner-end j count level (omega arith))) tt
+inner-each P level count long told (suc f) j some h =
+    ⊎-elim
+    (λ l. subst (Each P) (sym (inner-step j count level l long)) (told j some l, inner-each P level count long told f (j + 1) (omega arith) (omega arith)))
+    (λ g. subst (Each P) (sym (inner-end j count level g)) tt)
+    (below? (j + 1) count)
+
+pub falling-end : {n : ℕ} {t cols nbr : List ℕ} {limit seed : ℕ} {level : List ℕ} {count : ℕ} {groups out into : List ℕ} {q room k : ℕ}
+    → Falling n t cols nbr limit level count groups out into q room k → k ≤ 1 → Levelled n t seed level count → count ≤ length level
+    → take count level ≡ levels n t seed → Idle n t limit (inner (levels n t seed))
+falling-end {n} {t} {limit = limit} {seed = seed} {level = level} {count = count} F last L long e =
+    subst (λ (ls : List ℕ). Idle n t limit (inner ls)) e
+    (subst (Idle n t limit) (sym (inner-start count level long))
+    (inner-each _ level count long
+    (λ j a b le.
+    let few = leb-true (size n (row level j)) limit le in
+    F .told j (omega arith) b (omega (arith, few, size-ones n (row level j) (members-below n (row level j) (λ x. L .below j x (omega arith)))))) count 1 (omega arith) (omega arith)))
+
+pub grouping-all : {rows cols nbr words : List ℕ} {room count left : ℕ} → Grouping rows cols nbr room words count left → left ≡ 0 → Grouping rows cols nbr room words count 0
+grouping-all {rows} {cols} {nbr} {words} {room} {count} G e = subst (Grouping rows cols nbr room words count) e G

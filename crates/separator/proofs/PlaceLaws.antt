@@ -1,7 +1,7 @@
 -- The levels of a seed by their places in an array: each station is in one, and has a neighbour in the level before. Assumes nothing.
 use mathlib.Core.Path.{_≡_, refl, sym, ap, _∙_, subst}
 use mathlib.Core.Logic.{⊎-elim}
-use mathlib.Core.Bool.{Bool, true, false, cond, _&&_}
+use mathlib.Core.Bool.{true, false, _&&_}
 use mathlib.Core.List.{List, [], _∷_}
 use Prim.Native.Nat.{ℕ, zero, suc, _+_, _^_, _≤_, _<_}
 use native.Mathlib.Nat.{not-suc-le-zero}
@@ -11,10 +11,9 @@ use lib.Dec.{eqb}
 use lib.ListN.{length, take}
 use lib.Pow.{pow-lt, pow-pos}
 use lib.Seq.{getD-take, length-take-le}
-use borrow.Author.Tests.{ne-eqb}
-use Rattle.bitset.specs.Sets.{has, minus, join}
+use Rattle.bitset.specs.Sets.{has, join}
 use Rattle.bitset.specs.Upto.{row}
-use Rattle.bitset.proofs.BoolLaws.{clash, not-both, and-l, and-r, or-l, or-r, or-cases, or-false-l, cond-elim, cond-false}
+use Rattle.bitset.proofs.BoolLaws.{clash, not-both, and-l, and-r, or-l, or-r, or-cases, or-false-l, cond-elim}
 use Rattle.bitset.proofs.QuantLaws.{below?, any-elim}
 use Rattle.bitset.proofs.HasLaws.{has-zero, has-or, member-below}
 use Rattle.bitset.proofs.SetLaws.{setOf-elim, has-self, has-one, has-join, minus-elim}

@@ -1,7 +1,6 @@
 -- Rising through the levels from the seed: what it leads to, and what leads to it, among the levels so far. Assumes nothing.
-use mathlib.Core.Path.{_≡_, sym, ap, _∙_, subst}
+use mathlib.Core.Path.{_≡_, sym, _∙_, subst}
 use mathlib.Core.Logic.{_≢_, ⊎-elim}
-use mathlib.Core.Bool.{true}
 use mathlib.Core.List.{List}
 use Prim.Native.Nat.{ℕ, _+_, _^_, _≤_, _<_}
 use native.Mathlib.Omega.{arith}
@@ -70,16 +69,22 @@ module _ {rows cols level : List ℕ} {seed : ℕ} {tails heads : List ℕ} {see
       at-k ws x e = getD-set-same ws k x 0 (omega (arith, e))
 
       new : (j : ℕ) → j ≡ k → PairsAt rows cols level seed (set tails k t) (set heads k h) j
-      new j q = subst (PairsAt rows cols level seed (set tails k t) (set heads k h)) (sym q)
-          (seen, R .spans, subst (λ (x : ℕ). Pairs rows cols seen (row level k) seed x (row (set heads k h) k)) (sym (at-k tails t (R .wide-tails)))
-          (subst (λ (x : ℕ). Pairs rows cols seen (row level k) seed t x) (sym (at-k heads h (R .wide-heads))) P))
+      new j q = subst (PairsAt rows cols level seed (set tails k t) (set heads k h)) (sym q) (
+        seen,
+        R .spans,
+        subst (λ (x : ℕ). Pairs rows cols seen (row level k) seed x (row (set heads k h) k)) (sym (at-k tails t (R .wide-tails)))
+            (subst (λ (x : ℕ). Pairs rows cols seen (row level k) seed t x) (sym (at-k heads h (R .wide-heads))) P),
+      )
 
       old : (j : ℕ) → 1 ≤ j → j < k → PairsAt rows cols level seed (set tails k t) (set heads k h) j
       old j a b =
           let (w, S, Q) = R .pairs j a b in
-          let ne : j ≢ k = λ q. omega arith in
-          (w, S, subst (λ (x : ℕ). Pairs rows cols w (row level j) seed x (row (set heads k h) j)) (sym (getD-set-other tails k j t 0 ne))
-          (subst (λ (x : ℕ). Pairs rows cols w (row level j) seed (row tails j) x) (sym (getD-set-other heads k j h 0 ne)) Q))
+          let ne : j ≢ k = λ q. omega arith in (
+            w,
+            S,
+            subst (λ (x : ℕ). Pairs rows cols w (row level j) seed x (row (set heads k h) j)) (sym (getD-set-other tails k j t 0 ne))
+                (subst (λ (x : ℕ). Pairs rows cols w (row level j) seed (row tails j) x) (sym (getD-set-other heads k j h 0 ne)) Q),
+          )
 
 -- the seed alone
 pub rising-start : {rows cols level : List ℕ} {seed : ℕ} {tails heads : List ℕ} {ahead back : Led} → length tails ≡ 34 → length heads ≡ 34 → row level 0 ≡ 2 ^ seed

@@ -43,11 +43,13 @@ loop-holds : tie.Need-loop-holds Inv-loop μ-loop
 loop-holds c =
     let a = c .before .before .args in
     let pre = c .before .before .pre in
-    let e = shl-one 64 (a .seed) (pre .1) in
-    (subst (λ (x : ℕ). Rising (now (a .rows)) (now (a .cols)) (now (a .level)) (a .seed) (now (a .tails)) (now (a .heads)) x (c .before .led-from .result) (c .led-from2 .result) 1) (sym e)
-    (rising-start (pre .5) (pre .6) (pre .4)
-    (subst (λ (x : ℕ). LedFrom (now (a .rows)) 0 x (c .before .led-from .result)) e (c .before .led-from .ensures))
-    (subst (λ (x : ℕ). LedFrom (now (a .cols)) 0 x (c .led-from2 .result)) e (c .led-from2 .ensures))), pre .2)
+    let e = shl-one 64 (a .seed) (pre .1) in (
+      subst (λ (x : ℕ). Rising (now (a .rows)) (now (a .cols)) (now (a .level)) (a .seed) (now (a .tails)) (now (a .heads)) x (c .before .led-from .result) (c .led-from2 .result) 1) (sym e)
+          (rising-start (pre .5) (pre .6) (pre .4)
+          (subst (λ (x : ℕ). LedFrom (now (a .rows)) 0 x (c .before .led-from .result)) e (c .before .led-from .ensures))
+          (subst (λ (x : ℕ). LedFrom (now (a .cols)) 0 x (c .led-from2 .result)) e (c .led-from2 .ensures))),
+      pre .2,
+    )
 
 -- src/idle.rt:84:11
 add-loop : tie.Need-add-loop Inv-loop μ-loop
@@ -103,10 +105,12 @@ loop-again c =
     let l = c .before .before .before .before .before .loop in
     let s : ℕ = row (c .before .before .before .before .before .before .before .before .args .level .now) (l .k) in
     let R = l .inv .0 in
-    let pairs = c .before .before .ends-in .ensures .2 _ _ (l .seen) _ (R .leads) (R .led) in
-    (rising-turn R _ _ _ _ (omega arith) pairs
-    (c .before .led-on .ensures (bitOr (l .seen) s) _ (λ x e. e) (part-or-r (l .seen) s) (rising-ahead R))
-    (c .led-on2 .ensures (bitOr (l .seen) s) _ (λ x e. e) (part-or-r (l .seen) s) (rising-back R)), omega arith)
+    let pairs = c .before .before .ends-in .ensures .2 _ _ (l .seen) _ (R .leads) (R .led) in (
+      rising-turn R _ _ _ _ (omega arith) pairs
+          (c .before .led-on .ensures (bitOr (l .seen) s) _ (λ x e. e) (part-or-r (l .seen) s) (rising-ahead R))
+          (c .led-on2 .ensures (bitOr (l .seen) s) _ (λ x e. e) (part-or-r (l .seen) s) (rising-back R)),
+      omega arith,
+    )
 
 -- src/idle.rt:94:13
 mul-s-2 : tie.Need-mul-s-2 Inv-loop μ-loop
@@ -133,10 +137,19 @@ returns c =
     let w : ℕ = bitOr (l .seen) s in
     let R = l .inv .0 in
     let all : l .k + 1 ≡ a .count = omega (arith, l .inv .1) in
-    let spans = subst (λ (k : ℕ). Spans (a .level .now) 0 k w) all (spans-up (omega arith) (R .spans)) in
-    (R .wide-tails, R .wide-heads, (λ j a b. R .pairs j a (omega arith)), λ e. (w, spans, λ x h. (
-      c .before .before .leads-to-all .ensures w _ (part-or-l (l .seen) s) (part-or-r (l .seen) s) (rising-ahead R) (c .before .if1 .taken) x h,
-      c .leads-to-all2 .ensures w _ (part-or-l (l .seen) s) (part-or-r (l .seen) s) (rising-back R) e x h)))
+    let spans = subst (λ (k : ℕ). Spans (a .level .now) 0 k w) all (spans-up (omega arith) (R .spans)) in (
+      R .wide-tails,
+      R .wide-heads,
+      (λ j a b. R .pairs j a (omega arith)),
+      λ e. (
+        w,
+        spans,
+        λ x h. (
+          c .before .before .leads-to-all .ensures w _ (part-or-l (l .seen) s) (part-or-r (l .seen) s) (rising-ahead R) (c .before .if1 .taken) x h,
+          c .leads-to-all2 .ensures w _ (part-or-l (l .seen) s) (part-or-r (l .seen) s) (rising-back R) e x h,
+        ),
+      ),
+    )
 
 -- src/idle.rt:64:1
 returns-2 : tie.Need-returns-2 Inv-loop μ-loop
