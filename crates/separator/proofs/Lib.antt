@@ -16,9 +16,6 @@ pub mod RoomLaws
 pub mod LedLaws
 pub mod ArrayLaws
 pub mod ReachLaws
-pub mod PlaceLaws
-pub mod GroupLaws
-pub mod RisingLaws
 pub mod PartingLaws
 pub mod StayLaws
 pub mod LevelsLaws
@@ -34,7 +31,3 @@ pub mod StandLaws
 pub mod SpareLaws
 pub mod CutLaws
 pub mod ExactLaws
-pub mod PairLaws
-pub mod StrongLaws
-pub mod IdleLaws
-pub mod FallingLaws

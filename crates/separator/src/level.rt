@@ -31,9 +31,9 @@ pub(crate) struct Core {
 }
 
 // The tails i and the heads j of the pairs (i, j) on which a mark stands.
-pub(crate) struct Ends {
-    pub(crate) tails: u64,
-    pub(crate) heads: u64,
+struct Ends {
+    tails: u64,
+    heads: u64,
 }
 
 // The component of the mark m; bare has none.

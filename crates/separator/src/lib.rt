@@ -1,12 +1,12 @@
 // One separator: levels from a seed, components outside a level, marks, and the rule of one level.
-mod groups;
-mod idle;
 mod level;
 mod reach;
 
-pub use idle::is_idle;
+pub use reach::Led;
 pub use reach::Levels;
 pub use reach::components_of;
+pub use reach::grown;
+pub use reach::led_from;
 pub use reach::levels_from;
 pub use reach::neighbours;
 ghost use denote.Ref.{now};
