@@ -1,16 +1,16 @@
 -- The stations that have a leg from a set, and these of all that a set leads to, as the code finds both in one walk. Words of 64 bits. Assumes nothing.
 use mathlib.Core.Path.{_≡_, refl, sym, ap, ap₂, _∙_}
-use mathlib.Core.Bool.{Bool, _&&_, _||_}
+use mathlib.Core.Bool.{Bool, true, _&&_, _||_}
 use mathlib.Core.List.{List}
 use Prim.Native.Nat.{ℕ, _+_, _-_, _^_, _<_}
 use native.Mathlib.Omega.{arith}
 use lib.Bits.{bitAnd, bitOr, or-lt, or-zero-l, or-zero-r}
 use lib.Count.{ones}
 use Rattle.bitset.specs.Sets.{has, setOf}
-use Rattle.bitset.proofs.BoolLaws.{taut3, and-r}
-use Rattle.bitset.proofs.QuantLaws.{any-ext, any-none, any-or}
+use Rattle.bitset.proofs.BoolLaws.{taut3, and-l, and-r}
+use Rattle.bitset.proofs.QuantLaws.{any-elim, any-ext, any-none, any-or}
 use Rattle.bitset.proofs.HasLaws.{has-zero, has-and, has-or}
-use Rattle.bitset.proofs.SetLaws.{setOf-lt, has-setOf, setOf-ext, eq-setOf, setOf-none}
+use Rattle.bitset.proofs.SetLaws.{setOf-lt, has-setOf, setOf-elim, setOf-ext, eq-setOf, setOf-none}
 use Rattle.bitset.proofs.OnesLaws.{ones-pos, ones-within}
 use Rattle.circuit.specs.Legs.{leg}
 use Rattle.separator.specs.inner.Reach.{entered, LedFrom}
@@ -22,6 +22,12 @@ module _ (t : List ℕ) where
   pub entered-none : entered t 0 ≡ 0
   unfolding entered
   entered-none = setOf-ext 64 _ _ (λ j l. any-none 64 _ (λ d m. ap (λ (b : Bool). b && leg t d j) (has-zero d))) ∙ setOf-none 64
+
+  pub entered-elim : (w j : ℕ) → has (entered t w) j ≡ true → (d : ℕ) × (d < 64) × (has w d ≡ true) × (leg t d j ≡ true)
+  unfolding entered
+  entered-elim w j e =
+      let (d, l, f) = any-elim 64 (λ d. has w d && leg t d j) (setOf-elim 64 (leads 64 (leg t) w) j e .1) in
+      (d, l, and-l (has w d) (leg t d j) f, and-r (has w d) (leg t d j) f)
 
   -- from one of two sets
   pub entered-both : (a b : ℕ) → bitOr (entered t a) (entered t b) ≡ entered t (bitOr a b)

@@ -9,8 +9,8 @@ use native.Mathlib.Omega.{arith}
 use lib.Dec.{eqb}
 use Rattle.bitset.specs.Sets.{has, setOf, meet}
 use Rattle.bitset.specs.Upto.{row}
-use Rattle.bitset.proofs.BoolLaws.{iff, not-both, and-l}
-use Rattle.bitset.proofs.SetLaws.{setOf-lt, has-setOf, setOf-elim, eq-setOf}
+use Rattle.bitset.proofs.BoolLaws.{not-both, and-l}
+use Rattle.bitset.proofs.SetLaws.{setOf-lt, setOf-elim}
 use Rattle.bitset.proofs.QuantLaws.{any-low}
 use Rattle.bitset.proofs.MachineLaws.{setOf-low}
 use Rattle.bitset.proofs.UptoLaws.{getD-upto, upto-cong}

@@ -27,6 +27,12 @@ module _ {R : ℕ → ℕ → Bool} {In : ℕ → Type 0} where
   walk-keeps P on (stay k) p = p
   walk-keeps P on (step {d = d} {e = e} w r k) p = on d e (walk-end w) k r (walk-keeps P on w p)
 
+-- along a relation that holds where the first does, at stations of a wider kind
+pub walk-map : {R Q : ℕ → ℕ → Bool} {In On : ℕ → Type 0} {c d : ℕ} → ((i j : ℕ) → In i → In j → R i j ≡ true → Q i j ≡ true) → ((i : ℕ) → In i → On i)
+    → Walk R In c d → Walk Q On c d
+walk-map also wider (stay {c = c} k) = stay (wider c k)
+walk-map also wider (step {d = d} {e = e} w r k) = step (walk-map also wider w) (also d e (walk-end w) k r) (wider e k)
+
 -- along a relation that holds the other way round
 pub walk-back : {R Q : ℕ → ℕ → Bool} {In : ℕ → Type 0} {c d : ℕ} → ((i j : ℕ) → In i → In j → R i j ≡ true → Q j i ≡ true) → Walk R In c d → Walk Q In d c
 walk-back swap (stay k) = stay k

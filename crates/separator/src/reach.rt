@@ -20,9 +20,9 @@ pub struct Levels {
 }
 
 // The stations that a set leads to, and those that one of them has a leg to.
-pub(crate) struct Led {
-    pub(crate) all: u64,
-    pub(crate) beyond: u64,
+pub struct Led {
+    pub all: u64,
+    pub beyond: u64,
 }
 
 // Gathers the neighbours: into the word of each station those with a leg to or from it. Words beyond n are 0.
@@ -70,7 +70,7 @@ pub fn levels_from(nbr: &[u64; 64], n: usize, seed: usize) -> Levels
 
 // The set `start`, grown inside `room` along the words of its stations. Only the stations that came in last can bring in more, so each word is read once; and
 // where nothing is left of the room, no further word is read.
-pub(crate) fn grown(words: &[u64; 64], room: u64, start: u64) -> u64
+pub fn grown(words: &[u64; 64], room: u64, start: u64) -> u64
     ensures { λ r. ⌜ r ≡ grow 64 64 (leg (now (words .entry))) room start ⌝ }
 {
     let mut left = room & !start;
@@ -86,7 +86,7 @@ pub(crate) fn grown(words: &[u64; 64], room: u64, start: u64) -> u64
 }
 
 // What `start` leads to inside `room` along the words of its stations, and the members of the words of all these. Each word is read once.
-pub(crate) fn led_from(words: &[u64; 64], room: u64, start: u64) -> Led
+pub fn led_from(words: &[u64; 64], room: u64, start: u64) -> Led
     ensures { λ r. ⌜ LedFrom (now (words .entry)) room start r ⌝ }
 {
     let mut left = room & !start;

@@ -1,0 +1,2 @@
+-- The idle test: what its functions promise.
+pub mod inner
