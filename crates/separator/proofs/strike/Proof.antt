@@ -1,8 +1,8 @@
 -- `separator::strike` meets its contract. Assumes nothing.
 use borrow.Author.Needs.{needs}
 use denote.Ref.{now}
-use mathlib.Core.Path.{_≡_, sym, ap, subst, _∙_}
-use mathlib.Core.Bool.{false}
+use mathlib.Core.Path.{_≡_, refl, sym, ap, subst, _∙_}
+use mathlib.Core.Bool.{false, true≢false}
 use mathlib.Core.List.{List}
 use Prim.Native.Nat.{ℕ}
 use native.Mathlib.Omega.{arith}
@@ -121,7 +121,7 @@ returns c =
     let r = c .before in
     let a = entry r .args in
     let p = entry r .pre in
-    (record { verdict = level-none (a .n) (now (a .rows)) (a .s) (r .spare-stations .result) (spares r) (c .if1 .taken); table = p .1 }, p .2)
+    (record { verdict = level-none (a .n) (now (a .rows)) (a .s) (r .spare-stations .result) (spares r) (c .if1 .taken); table = p .1 }, p .2, λ _. refl)
 
 cut-requires : tie.Need-cut-requires
 cut-requires c κs = search needs
@@ -133,7 +133,7 @@ returns-2 c =
     let a = entry (passed (going k)) .args in
     let p = entry (passed (going k)) .pre in
     let same : k .cut .last .0 ≡ now (a .rows) = k .cut .ensures .1 (not-true _ (c .if2 .taken)) in
-    (taken (going k) _ (now (a .cols)) (k .cut .ensures .0) (p .1 .columns ∙ ap (columns (a .n)) (sym same)), subst (λ (l : List ℕ). Linked (a .n) l (now (a .nbr))) (sym same) (p .2))
+    (taken (going k) _ (now (a .cols)) (k .cut .ensures .0) (p .1 .columns ∙ ap (columns (a .n)) (sym same)), subst (λ (l : List ℕ). Linked (a .n) l (now (a .nbr))) (sym same) (p .2), λ _. same)
 
 cut-requires-2 : tie.Need-cut-requires-2
 cut-requires-2 c κs =
@@ -150,7 +150,7 @@ neighbours-requires c κs =
 returns-3 : tie.Need-returns-3
 returns-3 c =
     let k = c .before .before .before .before in
-    (cut-table k, record { most = entry (passed (going (shortened k))) .pre .2 .most; table = c .neighbours .ensures })
+    (cut-table k, record { most = entry (passed (going (shortened k))) .pre .2 .most; table = c .neighbours .ensures }, λ e. absurd (true≢false e))
 
 pub strike-spec : {M : Type 1} → statement M
 strike-spec =
