@@ -1,16 +1,16 @@
--- What the machine's operations on words of m bits do to their members: `a & b`, `a & !b`, one member more, one less. Assumes nothing.
+-- What the machine's operations on words of m bits do to their members: `a & b`, `a | b`, `a & !b`, one member more, one less. Assumes nothing.
 use mathlib.Core.Path.{_≡_, refl, sym, ap, _∙_}
 use mathlib.Core.Logic.{_⊎_, inl, inr, ⊎-elim}
-use mathlib.Core.Bool.{true, false, not, _&&_}
+use mathlib.Core.Bool.{Bool, true, false, not, _&&_, _||_, or-true, or-false}
 use Prim.Native.Nat.{ℕ, _-_, _^_, _<_}
 use native.Mathlib.Omega.{arith}
 use lib.Dec.{eqb}
 use lib.Pow.{pow-lt, pow-pos}
-use lib.Bits.{bitAnd, bitOr, and-le-l, or-disjoint}
+use lib.Bits.{bitAnd, bitOr, and-le-l, and-le-r, or-zero-l, or-add-and, or-disjoint}
 use lib.Count.{trailingZeros}
-use borrow.Author.Tests.{eq-eqb, ne-eqb, not-true}
+use borrow.Author.Tests.{eq-eqb, ne-eqb, eqb-true, eqb-false, not-true}
 use Rattle.bitset.specs.Sets.{has, setOf}
-use Rattle.bitset.proofs.BoolLaws.{not-both, is-false, and-intro, and-l, and-r, or-l, or-r, or-cases}
+use Rattle.bitset.proofs.BoolLaws.{not-both, cases, is-false, and-intro, and-l, and-r, or-l, or-r, or-cases}
 use Rattle.bitset.proofs.HasLaws.{has-zero, has-and, has-or, member-below}
 use Rattle.bitset.proofs.SetLaws.{has-diff, has-self, has-one, none-zero}
 use Rattle.bitset.proofs.LeastLaws.{trailing-least, has-clear}
@@ -34,6 +34,19 @@ and-some m a b h p =
     let r = trailing-least m (bitAnd a b) p (omega (arith, and-le-l a b)) in
     let (x, y) = in-and a b u (r .member) in
     (u, r .below, x, y)
+
+-- ---- `a | b`
+
+-- `a | b != 0`
+pub or-some : (a b : ℕ) → not (eqb (bitOr a b) 0) ≡ not (eqb b 0) || not (eqb a 0)
+or-some a b =
+    ⊎-elim
+    (λ (z : eqb a 0 ≡ true). ap (λ (x : ℕ). not (eqb x 0)) (ap (λ (x : ℕ). bitOr x b) (eqb-true a 0 z) ∙ or-zero-l b) ∙ sym (ap with-a z ∙ or-false (not (eqb b 0))))
+    (λ (p : eqb a 0 ≡ false). ap not (ne-eqb (bitOr a b) 0 (λ e. eqb-false a 0 p (omega (arith, or-add-and a b, and-le-r a b)))) ∙ sym (ap with-a p ∙ or-true (not (eqb b 0))))
+    (cases (eqb a 0))
+  where
+    with-a : Bool → Bool
+    with-a x = not (eqb b 0) || not x
 
 -- ---- `a & !b`
 

@@ -1,20 +1,24 @@
 -- Rows without stray legs, by their legs; and the code's test for them. Assumes nothing.
-use mathlib.Core.Path.{_≡_, refl, sym, ap, _∙_}
+use mathlib.Core.Path.{_≡_, refl, sym, ap, ap₂, _∙_}
 use mathlib.Core.Logic.{_≢_, ⊎-elim}
-use mathlib.Core.Bool.{true, false, not, _||_}
-use Prim.Native.Nat.{ℕ, _-_, _^_, _≤_, _<_}
+use mathlib.Core.Bool.{Bool, true, false, not, _||_}
+use mathlib.Core.List.{List}
+use Prim.Native.Nat.{ℕ, _+_, _-_, _^_, _≤_, _<_}
 use native.Mathlib.Nat.{lt-of-lt-of-le, not-le-of-lt}
-use lib.Bits.{bitAnd}
+use native.Mathlib.Numerals.{add-one}
+use lib.Bits.{bitAnd, bitOr}
 use lib.Dec.{eqb, leb, ltb}
 use lib.Pow.{pow-pos, pow-mono}
 use borrow.Author.Tests.{lt-ltb, le-ltb, lt-leb, leb-false, eqb-true, eqb-false, eq-eqb, ne-eqb, not-true, not-false}
-use Rattle.bitset.specs.Sets.{has, setOf}
+use Rattle.bitset.specs.Sets.{has, setOf, any}
+use Rattle.bitset.specs.Upto.{row}
 use Rattle.bitset.proofs.BoolLaws.{cases, not-both, is-false, or-none, or-false-l, or-false-r, cond-elim, cond-true, cond-false}
 use Rattle.bitset.proofs.QuantLaws.{below?}
 use Rattle.bitset.proofs.HasLaws.{has-zero, has-above}
 use Rattle.bitset.proofs.SetLaws.{setOf-lt, has-setOf, setOf-elim, no-member, members-below}
 use Rattle.bitset.proofs.MachineLaws.{within-of-diff, diff-of-within}
-use Rattle.circuit.specs.inner.Tables.{fullRow}
+use Rattle.bitset.proofs.WordLaws.{or-some}
+use Rattle.circuit.specs.inner.Tables.{fullRow, some, Tells}
 use Rattle.circuit.specs.State.{strayRow}
 
 -- j may follow i in the full table of n
@@ -89,3 +93,19 @@ stray-test n i w le h =
 
     within : rest ≡ 0 → (j : ℕ) → has w j ≡ true → has (fullRow n i) j ≡ true
     within z j e = within-of-diff 64 w (fullRow n i) full z j (⊎-elim (λ l. l) (λ g. absurd (not-both e (has-above 64 w j h g))) (below? j 64)) e
+
+-- ---- the word that tells whether a row is stray
+
+module _ (n : ℕ) (t : List ℕ) where
+  pub tells-none : Tells n t 0 0
+  unfolding any
+  tells-none = refl
+
+  pub tells-more : (i found v : ℕ) → Tells n t i found → some v ≡ strayRow n i (row t i) → Tells n t (i + 1) (bitOr found v)
+  unfolding any
+  tells-more i found v h e = or-some found v ∙ ap₂ (λ (a b : Bool). a || b) e h ∙ ap (λ (m : ℕ). any m (λ i. strayRow n i (row t i))) (sym (add-one i))
+
+-- a row beyond n, as it stands
+pub beyond-row : (n i w : ℕ) → n ≤ i → some w ≡ strayRow n i w
+unfolding strayRow
+beyond-row n i w g = sym (cond-false _ _ (le-ltb i n g))

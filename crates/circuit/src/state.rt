@@ -2,8 +2,11 @@
 use crate::card::End;
 use crate::table::Table;
 use crate::table::stray;
+ghost use denote.Ref.{now};
 ghost use mathlib.Core.Path.{_≡_};
+ghost use mathlib.Core.Bool.{Bool};
 ghost use Prim.Native.Nat.{_≤_};
+ghost use Rattle.circuit.specs.declared.card.End.{End};
 ghost use Rattle.circuit.specs.State.{state, blank, fresh, moved, lastPlace, bad};
 
 pub struct Work {
@@ -68,14 +71,20 @@ impl Work {
     pub fn is_bad(self) -> bool
         ensures { λ r. ⌜ r ≡ bad self ⌝ }
     {
-        let n = self.n;
-        if bitset::outside(Table::MIN, Table::MAX, n) {
-            return true;
-        }
         let table = self.table;
         let rows = table.rows;
-        stray(&rows, n)
-            | bitset::outside(Work::LIMIT_MIN, Work::LIMIT_MAX, self.limit)
-            | (Work::last_place(n) < self.place)
+        is_bad_state(&rows, self.n, self.limit, self.place)
     }
+}
+
+// The same of a state that lies in parts: mark and end say nothing of it.
+pub fn is_bad_state(rows: &[u64; 64], n: usize, limit: usize, place: usize) -> bool
+    ensures { λ r. ⌜ ((mark : Bool) (end : End) → r ≡ bad (state n (now (rows .entry)) limit place mark end)) ⌝ }
+{
+    if bitset::outside(Table::MIN, Table::MAX, n) {
+        return true;
+    }
+    stray(rows, n)
+        | bitset::outside(Work::LIMIT_MIN, Work::LIMIT_MAX, limit)
+        | (Work::last_place(n) < place)
 }

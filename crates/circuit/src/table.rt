@@ -1,14 +1,14 @@
 // The leg table: its full one, its columns, its legs, and its stray legs.
 ghost use denote.Ref.{now};
 ghost use mathlib.Core.Path.{_≡_};
-ghost use Prim.Native.Nat.{_≤_, _<_};
+ghost use Prim.Native.Nat.{ℕ, _≤_, _<_};
 ghost use lib.Count.{ones};
 ghost use lib.ListN.{length};
 ghost use Rattle.bitset.specs.Sets.{sum};
 ghost use Rattle.bitset.specs.Upto.{upto, row};
 ghost use Rattle.circuit.specs.Legs.{columns, fullTable, capped};
 ghost use Rattle.circuit.specs.State.{strayRow, stray};
-ghost use Rattle.circuit.specs.inner.Tables.{Square, fullRow, gaps, added};
+ghost use Rattle.circuit.specs.inner.Tables.{Square, fullRow, gaps, added, some, Tells};
 
 pub struct Table {
     pub rows: [u64; 64],
@@ -134,24 +134,49 @@ fn row_legs(legs: u64) -> u32
     u64::count_ones(legs)
 }
 
-// Has the table a leg that the full table of n has not?
+// Has the table a leg that the full table of n has not? What is found in the rows is gathered in one word.
 pub(crate) fn stray(rows: &[u64; 64], n: usize) -> bool
     requires { ⌜ n ≤ 64 ⌝ }
     ensures { λ r. ⌜ r ≡ stray n (now (rows .entry)) ⌝ }
 {
-    let mut found = false;
+    let within = stray_within(rows, n);
+    stray_beyond(rows, n, within) != 0
+}
+
+// The rows of the n stations.
+fn stray_within(rows: &[u64; 64], n: usize) -> u64
+    requires { ⌜ n ≤ 64 ⌝ }
+    ensures { λ r. ⌜ Tells n (now (rows .entry)) n r ⌝ }
+{
+    let all = bitset::full(n);
+    let mut own = 1u64;
+    let mut found = 0u64;
     let mut i = 0usize;
-    while i < Table::MAX {
-        found = stray_row(n, i, rows[i]) | found;
+    while i < n {
+        found |= stray_legs(rows[i], all & !own);
+        own <<= 1;
         i += 1;
     }
     found
 }
 
-// The same of row i.
-fn stray_row(n: usize, i: usize, legs: u64) -> bool
-    requires { ⌜ (n ≤ 64) × (i < 64) ⌝ }
-    ensures { λ r. ⌜ r ≡ strayRow n i legs ⌝ }
+// With what was found there, the rows beyond.
+fn stray_beyond(rows: &[u64; 64], n: usize, within: u64) -> u64
+    requires { ⌜ (n ≤ 64) × Tells n (now rows) n within ⌝ }
+    ensures { λ r. ⌜ Tells n (now (rows .entry)) 64 r ⌝ }
 {
-    legs & !full_row(n, i) != 0
+    let mut found = within;
+    let mut i = n;
+    while i < Table::MAX {
+        found |= rows[i];
+        i += 1;
+    }
+    found
+}
+
+// The legs that the full row has not. The range of a word is known of a parameter, and not of an element.
+fn stray_legs(legs: u64, full: u64) -> u64
+    ensures { λ r. ⌜ ((n i : ℕ) → n ≤ 64 → full ≡ fullRow n i → some r ≡ strayRow n i legs) ⌝ }
+{
+    legs & !full
 }

@@ -6,11 +6,11 @@ use Prim.Native.Nat.{ℕ, _^_, _<_}
 use lib.Bits.{bitOr}
 use lib.Dec.{eqb, ltb}
 use lib.ListN.{length}
-use Rattle.bitset.specs.Sets.{has, setOf}
+use Rattle.bitset.specs.Sets.{has, setOf, any}
 use Rattle.bitset.specs.Upto.{row}
 use Rattle.circuit.specs.declared.verdict.Verdict.{Verdict}
 use Rattle.circuit.specs.Legs.{leg, columns, tableOf}
-use Rattle.circuit.specs.State.{stray}
+use Rattle.circuit.specs.State.{stray, strayRow}
 
 -- the first n words are sets of numbers below n
 abbrev pub Square : ℕ → List ℕ → Type 0
@@ -30,6 +30,14 @@ pub record TableTaken (n : ℕ) (v : Verdict) (none : Bool) (rows cols : List �
 -- row i of the full table
 unfoldable pub fullRow : ℕ → ℕ → ℕ
 fullRow n i = cond (ltb i n) (setOf n (λ j. not (eqb i j))) 0
+
+-- the word has a member
+abbrev pub some : ℕ → Bool
+some w = not (eqb w 0)
+
+-- the word tells whether one of the first m rows is stray
+abbrev pub Tells : ℕ → List ℕ → ℕ → ℕ → Type 0
+Tells n t m w = some w ≡ any m (λ i. strayRow n i (row t i))
 
 -- the legs between stations below n that do not stand
 unfoldable pub gaps : ℕ → List ℕ → List ℕ

@@ -1,10 +1,8 @@
 -- `circuit::full_row` meets its contract.
-use mathlib.Core.Path.{sym, ap₂, _∙_}
-use Prim.Native.Nat.{ℕ, _-_, _^_}
+use mathlib.Core.Path.{sym}
 use borrow.Author.Needs.{needs}
-use borrow.Author.Tests.{lt-ltb, le-ltb}
-use lib.Bits.{bitAnd}
-use Rattle.bitset.proofs.BoolLaws.{cond-true, cond-false}
+use borrow.Author.Tests.{le-ltb}
+use Rattle.bitset.proofs.BoolLaws.{cond-false}
 use Rattle.bitset.proofs.MachineLaws.{shl-one}
 use Rattle.circuit.specs.inner.Tables.{fullRow}
 use Rattle.circuit.proofs.LegsLaws.{full-row}
@@ -18,11 +16,9 @@ shl-result : tie.Need-shl-result
 shl-result c = search needs
 
 returns : tie.Need-returns
-unfolding fullRow
 returns c =
     let a = c .before .before .args in
-    ap₂ (λ (w m : ℕ). bitAnd w ((2 ^ 64 - 1) - m)) (c .full .ensures) (shl-one 64 (a .i) (search needs))
-    ∙ full-row (a .n) (a .i) (search needs) (search needs) ∙ sym (cond-true _ 0 (lt-ltb (a .i) (a .n) (c .before .if1 .taken)))
+    full-row (a .n) (a .i) _ _ (search needs) (c .before .if1 .taken) (c .full .ensures) (shl-one 64 (a .i) (search needs))
 
 returns-2 : tie.Need-returns-2
 unfolding fullRow

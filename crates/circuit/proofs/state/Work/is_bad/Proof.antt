@@ -1,38 +1,13 @@
 -- `circuit::Work::is_bad` meets its contract.
 use borrow.Author.Needs.{needs}
-use mathlib.Core.Path.{sym, _∙_}
-use Prim.Native.Nat.{_≤_}
-use Rattle.circuit.specs.State.{bad}
-use Rattle.bitset.proofs.OutsideLaws.{inside}
 use Rattle.circuit.proofs.state.Work.is_bad.Statement.{statement}
 use Rattle.circuit.proofs.state.Work.is_bad.Tie as tie
 
-outside-requires : tie.Need-outside-requires
-outside-requires c κs = search needs
+is-bad-state-requires : tie.Need-is-bad-state-requires
+is-bad-state-requires c κs = search needs
 
 returns : tie.Need-returns
-unfolding bad
-returns c = rw (sym (c .before .outside .ensures) ∙ c .if1 .taken)
-
--- n is at most 64 where the code goes on
-most : (c : tie.Else1) → c .before .before .args .self .n ≤ 64
-most c = inside 2 64 _ (sym (c .before .outside .ensures) ∙ c .if1 .left) .1
-
-stray-requires : tie.Need-stray-requires
-stray-requires c κs = most (c .before .before .before)
-
-outside-requires-2 : tie.Need-outside-requires-2
-outside-requires-2 c κs = search needs
-
-last-place-requires : tie.Need-last-place-requires
-last-place-requires c κs = most (c .before .before .before .before .before)
-
-returns-2 : tie.Need-returns-2
-unfolding bad
-returns-2 c =
-    let l = c .before .before .before .before .before .before .before in
-    rw (sym (l .before .outside .ensures) ∙ l .if1 .left, c .before .before .before .stray .ensures, c .before .before .outside2 .ensures, c .before .last-place .ensures)
+returns c = let w = c .before .before .before .before .args .self in c .is-bad-state .ensures (w .mark) (w .end)
 
 pub is-bad-spec : {M : Type 1} → statement M
-is-bad-spec =
-    tie.close (tie.spec outside-requires returns stray-requires outside-requires-2 last-place-requires returns-2)
+is-bad-spec = tie.close (tie.spec is-bad-state-requires returns)
