@@ -10,7 +10,7 @@ use lib.Bits.{bitAnd}
 use lib.Count.{ones}
 use lib.Dec.{ltb}
 use borrow.Author.Tests.{eq-eqb, lt-ltb, ltb-true}
-use Rattle.bitset.specs.Sets.{has, any}
+use Rattle.bitset.specs.Sets.{has, any, setOf}
 use Rattle.bitset.specs.Upto.{row}
 use Rattle.bitset.proofs.BoolLaws.{not-both, and-intro, or-l, or-r, or-none, cond-true, cond-false}
 use Rattle.bitset.proofs.HasLaws.{has-zero, member-below}
@@ -30,8 +30,9 @@ use Rattle.filter.specs.declared.chaining.CompulsoryLegs.{CompulsoryLegs
 use Rattle.filter.specs.declared.chaining.Chains.{Chains}
 use Rattle.filter.specs.declared.singles.Singles.{Singles}
 use Rattle.filter.specs.inner.Chains.{compulsoryWords, CompulsoryOf, ChainsOf, ShortLoop}
-use Rattle.filter.specs.inner.Singles.{single, SinglesOf}
+use Rattle.filter.specs.inner.Singles.{single, soleIn, SinglesOf}
 use Rattle.filter.specs.Trail.{Compulsory}
+use Rattle.filter.proofs.SoleLaws.{sole-is}
 use Rattle.filter.proofs.CompulsoryLaws.{column-none, compulsory-rows, compulsory-columns, forked-is}
 use Rattle.filter.proofs.LoopLaws.{Marks, compulsories-square, closing-table, short-loop}
 
@@ -45,9 +46,9 @@ pub record Gathered (n : ℕ) (t : List ℕ) (out into : CompulsoryLegs) : Type 
   pub enter : (k : ℕ) → k < 64 → has (into .some) k ≡ ltb 0 (row (columns n (compulsories n t)) k)
   pub forked : out .forked || into .forked ≡ forked n (compulsories n t)
 
-pub gathered : (n : ℕ) (t : List ℕ) → n ≤ 64 → stray n t ≡ false → (cols : List ℕ) → cols ≡ columns n t → (next prev : Singles) → SinglesOf n t next → SinglesOf n cols prev
-    → (out into : CompulsoryLegs) → out .some < 2 ^ 64 → into .some < 2 ^ 64 → CompulsoryOf n t (prev .which) out → CompulsoryOf n cols (next .which) into → Gathered n t out into
-gathered n t le clean cols is next prev gn gp out into fo fi co ci =
+pub gathered : (n : ℕ) (t : List ℕ) → n ≤ 64 → stray n t ≡ false → (cols : List ℕ) → cols ≡ columns n t → (next : Singles) → SinglesOf n t next → (sole : ℕ) → sole ≡ setOf 64 (soleIn next)
+    → (out into : CompulsoryLegs) → out .some < 2 ^ 64 → into .some < 2 ^ 64 → CompulsoryOf n t sole out → CompulsoryOf n cols (next .which) into → Gathered n t out into
+gathered n t le clean cols is next gn sole alone out into fo fi co ci =
     record {
       most = le;
       out-fits = fo;
@@ -58,8 +59,8 @@ gathered n t le clean cols is next prev gn gp out into fo fi co ci =
       forked = ap₂ (λ (a b : Bool). a || b) (co .forked ∙ ap two out-is) (ci .forked ∙ ap two in-is) ∙ forked-is n (compulsories n t) le (compulsories-square n t le);
     }
   where
-    out-is : compulsoryWords n t (prev .which) ≡ compulsories n t
-    out-is = compulsory-rows n t le clean (prev .which) (subst (λ (c : List ℕ). SinglesOf n c prev) is gp .which)
+    out-is : compulsoryWords n t sole ≡ compulsories n t
+    out-is = compulsory-rows n t le clean sole (sole-is n t le clean next gn sole alone)
 
     in-is : compulsoryWords n cols (next .which) ≡ columns n (compulsories n t)
     in-is = ap (λ (c : List ℕ). compulsoryWords n c (next .which)) is ∙ compulsory-columns n t le clean (next .which) (gn .which)
@@ -76,14 +77,14 @@ lone n words which le is none k j lk lj h e only =
     let one : single (row words k) ≡ true = eq-eqb (ones (row words k)) 1 (ap ones (pow-only n (row words k) j h lj e only) ∙ ones-pow j) in
     not-both (is k (lt-of-lt-of-le lk le) ∙ and-intro (lt-ltb k n lk) one) (ap (λ (w : ℕ). has w k) none ∙ has-zero k)
 
-pub singles-free : (n : ℕ) (t : List ℕ) → n ≤ 64 → stray n t ≡ false → (next prev : Singles) → SinglesOf n t next → SinglesOf n (columns n t) prev → next .which ≡ 0 → prev .which ≡ 0
+pub singles-free : (n : ℕ) (t : List ℕ) → n ≤ 64 → stray n t ≡ false → (next : Singles) → SinglesOf n t next → (sole : ℕ) → sole ≡ setOf 64 (soleIn next) → next .which ≡ 0 → sole ≡ 0
     → (i j : ℕ) → Compulsory n t i j → ⊥
 unfolding leg
-singles-free n t le clean next prev gn gp en ep i j c =
+singles-free n t le clean next gn sole alone en ep i j c =
     ⊎-elim
     (lone n t (next .which) le (gn .which) en i j (c .from) (c .to) (stray-row n t le clean i (c .from)) (c .stands))
     (λ only.
-    lone n (columns n t) (prev .which) le (gp .which) ep j i (c .to) (c .from) (columns-square n t le j (c .to)) (column-leg n t le i j (c .from) (c .to) ∙ c .stands)
+    lone n (columns n t) sole le (sole-is n t le clean next gn sole alone) ep j i (c .to) (c .from) (columns-square n t le j (c .to)) (column-leg n t le i j (c .from) (c .to) ∙ c .stands)
     (λ k l e. only k l (sym (column-leg n t le k j l (c .to)) ∙ e)))
     (c .only)
 

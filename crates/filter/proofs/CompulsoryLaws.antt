@@ -1,7 +1,7 @@
 -- The words of the compulsory legs: the loop that makes them, and that they are the table of the definitions and its columns. Assumes nothing.
 use mathlib.Core.Path.{_≡_, refl, sym, ap, ap₂, _∙_, subst}
 use mathlib.Core.Logic.{⊎-elim}
-use mathlib.Core.Bool.{Bool, false, cond, _&&_, _||_, or-comm, and-true, and-false}
+use mathlib.Core.Bool.{Bool, false, cond, _&&_, _||_, or-comm}
 use mathlib.Core.List.{List}
 use Prim.Native.Nat.{ℕ, _+_, _^_, _≤_, _<_}
 use native.Mathlib.Omega.{arith}
@@ -29,7 +29,7 @@ use Rattle.filter.specs.declared.chaining.CompulsoryLegs.{CompulsoryLegs
 use Rattle.filter.specs.inner.Chains.{compulsoryWord, compulsoryWords, CompulsoryOf}
 use Rattle.filter.specs.inner.Singles.{single}
 use Rattle.filter.proofs.LoopLaws.{compulsories-square}
-use Rattle.filter.proofs.SinglesLaws.{any-next, joins, single-pow}
+use Rattle.filter.proofs.SinglesLaws.{any-next, joins, only-bit}
 
 -- ---- the loop
 
@@ -85,19 +85,13 @@ module _ (n : ℕ) (words : List ℕ) (once : ℕ) where
 
 -- ---- a leg's bit
 
-only-bit : (w i : ℕ) → w < 2 ^ 64 → i < 64 → eqb w (2 ^ i) ≡ has w i && single w
-only-bit w i h l =
-    sym (single-pow w i h l)
-    ∙ cond-elim (λ (x : ℕ). has x i ≡ has w i && single w) (single w) w 0 (λ e. sym (ap (λ (b : Bool). has w i && b) e ∙ and-true (has w i)))
-    (λ e. has-zero i ∙ sym (ap (λ (b : Bool). has w i && b) e ∙ and-false (has w i)))
-
 -- the leg between two stations by the words v and w of both; it is the only one of the word v, or of the word w
 word-bit : (v w once i j : ℕ) → v < 2 ^ 64 → w < 2 ^ 64 → i < 64 → j < 64 → has v j ≡ has w i → has once j ≡ single w
     → has (compulsoryWord v once) j ≡ eqb v (2 ^ j) || eqb w (2 ^ i)
 word-bit v w once i j hv hw li lj e f =
     cond-elim (λ (x : ℕ). has x j ≡ cond (single v) (has v j) (has v j && has once j)) (single v) v (bitAnd v once) (λ q. sym (cond-true _ _ q)) (λ q. has-and v once j ∙ sym (cond-false _ _ q))
     ∙ taut3 (λ a b c. cond a b (b && c)) (λ a b c. b && a || b && c) refl (single v) (has v j) (has once j)
-    ∙ ap₂ (λ (a b : Bool). a || b) (sym (only-bit v j hv lj)) (ap₂ (λ (a b : Bool). a && b) e f ∙ sym (only-bit w i hw li))
+    ∙ ap₂ (λ (a b : Bool). a || b) (sym (only-bit 64 v j hv lj)) (ap₂ (λ (a b : Bool). a && b) e f ∙ sym (only-bit 64 w i hw li))
 
 word-lt : (n v once : ℕ) → v < 2 ^ n → compulsoryWord v once < 2 ^ n
 word-lt n v once h = cond-elim (λ (x : ℕ). x < 2 ^ n) (single v) v (bitAnd v once) (λ _. h) (λ _. omega (arith, and-le-l v once))

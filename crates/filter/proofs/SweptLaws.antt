@@ -1,29 +1,33 @@
--- The words that `single_words` gathers of the rows and of the columns say what the sweep's rule says. Assumes nothing.
-use mathlib.Core.Path.{_≡_, refl, sym, ap, ap₂, _∙_, subst}
+-- The words that `single_words` gathers of the rows say what the sweep's rule says of the rows and of the columns. Assumes nothing.
+use mathlib.Core.Path.{_≡_, refl, sym, ap, ap₂, _∙_}
 use mathlib.Core.Logic.{⊎-elim}
-use mathlib.Core.Bool.{Bool, true, false, not, cond, _&&_, _||_}
+use mathlib.Core.Bool.{Bool, true, false, not, cond, _&&_, _||_, and-true, and-false}
 use mathlib.Core.List.{List}
 use Prim.Native.Nat.{ℕ, _^_, _≤_, _<_}
 use native.Mathlib.Nat.{lt-of-lt-of-le, lt-trans}
+use native.Mathlib.Omega.{arith}
+use lib.Bits.{bitAnd, and-le-l}
 use lib.Dec.{eqb, ltb}
-use lib.ListN.{getD}
+use lib.ListN.{length, getD}
 use lib.Pow.{pow-mono}
 use borrow.Author.Tests.{lt-ltb, le-ltb}
 use Rattle.bitset.specs.Sets.{has, any, setOf}
 use Rattle.bitset.specs.Upto.{upto, row}
-use Rattle.bitset.proofs.BoolLaws.{clash, cases, and-l, cond-true, cond-false}
+use Rattle.bitset.proofs.BoolLaws.{clash, not-both, is-false, cases, and-l, cond-true, cond-false, taut1, taut2}
 use Rattle.bitset.proofs.QuantLaws.{below?, any-intro, any-elim, any-ext, any-or}
-use Rattle.bitset.proofs.HasLaws.{has-zero, has-above, ext}
-use Rattle.bitset.proofs.SetLaws.{has-setOf, setOf-lt, setOf-above}
+use Rattle.bitset.proofs.HasLaws.{has-zero, has-above, has-and, ext}
+use Rattle.bitset.proofs.SetLaws.{has-setOf, word-has, setOf-lt, setOf-above, no-member}
+use Rattle.bitset.proofs.UptoLaws.{upto-of}
 use Rattle.circuit.specs.Legs.{columns, leg, col, tableOf, without}
 use Rattle.circuit.specs.State.{stray}
 use Rattle.circuit.specs.Verdict.{saysNone, leaves}
-use Rattle.circuit.proofs.LegsLaws.{column-at, columns-square}
+use Rattle.circuit.proofs.LegsLaws.{column-at}
 use Rattle.circuit.proofs.StateLaws.{stray-row, stray-beyond}
 use Rattle.filter.specs.declared.singles.Singles.{Singles}
-use Rattle.filter.specs.inner.Singles.{single, only, SinglesOf, keeps}
+use Rattle.filter.specs.inner.Singles.{single, only, two, soleIn, SinglesOf, keeps}
 use Rattle.filter.specs.Sweep.{stuck, nextTaken, prevTaken, swept, sweep}
-use Rattle.filter.proofs.SinglesLaws.{single-pow, other-pair, other-once}
+use Rattle.filter.proofs.SinglesLaws.{single-pow, only-bit, zero-single, zero-is, single-is, other-pair, other-once}
+use Rattle.filter.proofs.SoleLaws.{col-has, col-below, col-empty, col-single, unreached}
 
 -- ---- of a list of words: some other word than the one at i is the set of j alone
 
@@ -33,21 +37,21 @@ module _ (n : ℕ) (words : List ℕ) (fits : (k : ℕ) → k < n → getD words
 
   only-is : (k : ℕ) → k < n → only words j k ≡ is k
   unfolding is
-  only-is k l = single-pow (getD words k 0) j (fits k l) lj
+  only-is k l = single-pow 64 (getD words k 0) j (fits k l) lj
 
-  pub another : cond (single (getD words i 0)) (any n (λ k. only words j k && any k (only words j))) (any n (only words j)) ≡ any n (λ k. not (eqb k i) && eqb (getD words k 0) (2 ^ j))
+  pub another : cond (single (getD words i 0)) (two n (only words j)) (any n (only words j)) ≡ any n (λ k. not (eqb k i) && eqb (getD words k 0) (2 ^ j))
   unfolding is
   another = ⊎-elim alone more (cases (single (getD words i 0)))
     where
       alone : single (getD words i 0) ≡ true
-          → cond (single (getD words i 0)) (any n (λ k. only words j k && any k (only words j))) (any n (only words j)) ≡ any n (λ k. not (eqb k i) && is k)
+          → cond (single (getD words i 0)) (two n (only words j)) (any n (only words j)) ≡ any n (λ k. not (eqb k i) && is k)
       alone e =
           cond-true _ _ e
           ∙ any-ext n (λ k. only words j k && any k (only words j)) (λ k. is k && any k is) (λ k l. ap₂ (λ (a b : Bool). a && b) (only-is k l) (any-ext k (only words j) is (λ m h. only-is m (lt-trans h l))))
           ∙ sym (other-pair n is i li (sym (only-is i li) ∙ ap (λ (w : ℕ). has w j) (cond-true (getD words i 0) 0 e) ∙ member))
 
       more : single (getD words i 0) ≡ false
-          → cond (single (getD words i 0)) (any n (λ k. only words j k && any k (only words j))) (any n (only words j)) ≡ any n (λ k. not (eqb k i) && is k)
+          → cond (single (getD words i 0)) (two n (only words j)) (any n (only words j)) ≡ any n (λ k. not (eqb k i) && is k)
       more e =
           cond-false _ _ e ∙ any-ext n (only words j) is only-is
           ∙ sym (other-once n is i (sym (only-is i li) ∙ ap (λ (w : ℕ). has w j) (cond-false (getD words i 0) 0 e) ∙ has-zero j))
@@ -55,76 +59,111 @@ module _ (n : ℕ) (words : List ℕ) (fits : (k : ℕ) → k < n → getD words
 -- ---- of a table
 
 -- what two words share, one of them has
-twice-once : (n : ℕ) (p : ℕ → Bool) → any n (λ k. p k && any k p) ≡ true → any n p ≡ true
+twice-once : (n : ℕ) (p : ℕ → Bool) → two n p ≡ true → any n p ≡ true
 twice-once n p e = let f = any-elim n (λ k. p k && any k p) e in any-intro n p (f .0) (f .1) (and-l (p (f .0)) (any (f .0) p) (f .2))
 
--- the test of `keeps` for the columns, by the column's own word
-by-column : (twice once which : Bool) → (twice ≡ true → once ≡ true) → cond twice false (cond once which true) ≡ not (cond which twice once)
-by-column true true true h = refl
-by-column true true false h = refl
-by-column true false w h = clash (sym (h refl))
-by-column false true true h = refl
-by-column false true false h = refl
-by-column false false true h = refl
-by-column false false false h = refl
+-- the test of `keeps` for the columns: some column, two columns, this column has the station alone
+by-column : (some pair here : Bool) → (pair ≡ true → some ≡ true) → (here ≡ true → some ≡ true) → cond (some && not pair) here (not some) ≡ not (cond here pair some)
+by-column true true true p h = refl
+by-column true true false p h = refl
+by-column true false true p h = refl
+by-column true false false p h = refl
+by-column false true here p h = clash (sym (p refl))
+by-column false false true p h = clash (sym (h refl))
+by-column false false false p h = refl
 
-module _ (n : ℕ) (t : List ℕ) (le : n ≤ 64) (clean : stray n t ≡ false) (next prev : Singles) (gn : SinglesOf n t next) (gp : SinglesOf n (columns n t) prev) where
+module _ (n : ℕ) (t : List ℕ) (le : n ≤ 64) (clean : stray n t ≡ false) (next : Singles) (gn : SinglesOf n t next) where
   -- some row or some column is empty
-  pub stuck-is : next .empty || prev .empty ≡ stuck n t
+  pub stuck-is : next .reached < 2 ^ 64 → next .empty || not (eqb (next .reached) (setOf 64 (λ j. ltb j n))) ≡ stuck n t
   unfolding stuck
-  stuck-is =
-      ap₂ (λ (a b : Bool). a || b) (gn .empty) (gp .empty ∙ any-ext n (λ k. eqb (getD (columns n t) k 0) 0) (λ k. eqb (col n t k) 0) (λ k l. ap (λ (w : ℕ). eqb w 0) (column-at n t le k l)))
+  stuck-is fits =
+      ap₂ (λ (a b : Bool). a || b) (gn .empty) (unreached n t le clean next gn fits ∙ sym (any-ext n (λ k. eqb (col n t k) 0) (λ k. not (has (next .reached) k)) (col-empty n t le clean next gn)))
       ∙ sym (any-or n (λ k. eqb (getD t k 0) 0) (λ k. eqb (col n t k) 0))
 
   row-fits : (k : ℕ) → k < n → getD t k 0 < 2 ^ 64
   row-fits k l = lt-of-lt-of-le (stray-row n t le clean k l) (pow-mono le)
 
-  col-fits : (k : ℕ) → k < n → getD (columns n t) k 0 < 2 ^ 64
-  col-fits k l = lt-of-lt-of-le (columns-square n t le k l) (pow-mono le)
-
   goes : ℕ → ℕ → Bool
   goes i j = nextTaken n t i j || prevTaken n (columns n t) i j
 
-  module _ (i j : ℕ) (li : i < n) (lj : j < n) (stands : leg t i j ≡ true) where
-    by-rows : cond (has (next .which) i) (has (next .twice) j) (has (next .once) j) ≡ nextTaken n t i j
-    unfolding nextTaken leg
-    by-rows =
-        let low : j < 64 = lt-of-lt-of-le lj le in
-        rw (gn .which i (lt-of-lt-of-le li le), gn .twice j low, gn .once j low, lt-ltb i n li) (another n t row-fits i j li low stands)
+  module _ (sole : ℕ) (alone : sole ≡ setOf 64 (soleIn next)) where
+    module _ (i j : ℕ) (li : i < n) (lj : j < n) (stands : leg t i j ≡ true) where
+      by-rows : cond (single (row t i)) (has (next .twice) j) (has (next .once) j) ≡ nextTaken n t i j
+      unfolding nextTaken leg
+      by-rows =
+          let low : j < 64 = lt-of-lt-of-le lj le in
+          rw (gn .twice j low, gn .once j low) (another n t row-fits i j li low stands)
 
-    by-columns : cond (has (prev .twice) i) false (cond (has (prev .once) i) (has (prev .which) j) true) ≡ not (prevTaken n (columns n t) i j)
-    unfolding prevTaken leg col
-    by-columns =
-        let low : i < 64 = lt-of-lt-of-le li le in
-        let cols = columns n t in
-        rw (gp .which j (lt-of-lt-of-le lj le), gp .twice i low, gp .once i low, lt-ltb j n lj)
-        (by-column (any n (λ k. only cols i k && any k (only cols i))) (any n (only cols i)) (single (getD cols j 0)) (twice-once n (only cols i))
-        ∙ ap not (another n cols col-fits j i lj low (ap (λ (w : ℕ). has w i) (column-at n t le j lj) ∙ has-setOf n (λ k. leg t k j) i li ∙ stands)))
+      own : ℕ
+      own = bitAnd (row t i) sole
 
-    keeps-is : keeps next prev i j ≡ not (goes i j)
-    unfolding goes
-    keeps-is = ap₂ (λ (a b : Bool). not a && b) by-rows by-columns ∙ de-morgan (nextTaken n t i j) (prevTaken n (columns n t) i j)
+      own-low : own < 2 ^ n
+      unfolding own
+      own-low = omega (arith, and-le-l (row t i) sole, stray-row n t le clean i li)
+
+      -- the stations into which i has the only leg
+      own-has : (k : ℕ) → k < n → has own k ≡ eqb (getD (columns n t) k 0) (2 ^ i)
+      unfolding own
+      own-has k l =
+          let c = col n t k in
+          has-and (row t i) sole k
+          ∙ ap₂ (λ (a b : Bool). a && b) (sym (col-has n t le clean next gn k i li)) (word-has 64 (soleIn next) alone k (lt-of-lt-of-le l le) ∙ col-single n t le clean next gn k l)
+          ∙ sym (only-bit n c i (col-below n t le clean next gn k) li) ∙ ap (λ (w : ℕ). eqb w (2 ^ i)) (sym (column-at n t le k l))
+
+      others : any n (λ k. not (eqb k j) && has own k) ≡ cond (has own j) (two n (has own)) (any n (has own))
+      others =
+          ⊎-elim (λ (e : has own j ≡ true). other-pair n (has own) j lj e ∙ sym (cond-true (two n (has own)) (any n (has own)) e))
+          (λ (e : has own j ≡ false). other-once n (has own) j e ∙ sym (cond-false (two n (has own)) (any n (has own)) e)) (cases (has own j))
+
+      by-columns : cond (single own) (has own j) (eqb own 0) ≡ not (prevTaken n (columns n t) i j)
+      unfolding prevTaken
+      by-columns =
+          ap₂ (λ (a b : Bool). cond a (has own j) b) (single-is n own own-low) (zero-is n own own-low)
+          ∙ by-column (any n (has own)) (two n (has own)) (has own j) (twice-once n (has own)) (λ e. any-intro n (has own) j lj e)
+          ∙ ap not (sym others ∙ any-ext n (λ k. not (eqb k j) && has own k) (λ k. not (eqb k j) && eqb (getD (columns n t) k 0) (2 ^ i)) (λ k l. ap (λ (b : Bool). not (eqb k j) && b) (own-has k l)))
+
+      keeps-is : keeps next (bitAnd (row t i) sole) (row t i) j ≡ not (goes i j)
+      unfolding goes own
+      keeps-is = ap₂ (λ (a b : Bool). not a && b) by-rows by-columns ∙ taut2 (λ a b. not a && not b) (λ a b. not (a || b)) refl (nextTaken n t i j) (prevTaken n (columns n t) i j)
+
+    -- the row that is left
+    pub swept-row : (i w : ℕ) → i < n → w < 2 ^ 64 → ((j : ℕ) → j < 64 → has w j ≡ has (row t i) j && keeps next (bitAnd (row t i) sole) (row t i) j)
+        → w ≡ setOf n (λ j. leg t i j && not (nextTaken n t i j || prevTaken n (columns n t) i j))
+    unfolding goes leg
+    swept-row i w li h bits = ext 64 w (setOf n kept) h (lt-of-lt-of-le (setOf-lt n kept) (pow-mono le)) (λ j l. bits j l ∙ ⊎-elim (inside j) (beyond j) (below? j n))
       where
-        de-morgan : (a b : Bool) → not a && not b ≡ not (a || b)
-        de-morgan true b = refl
-        de-morgan false b = refl
+        kept : ℕ → Bool
+        kept j = leg t i j && not (goes i j)
 
-  -- the row that is left
-  pub swept-row : (i w : ℕ) → i < n → w < 2 ^ 64 → ((j : ℕ) → j < 64 → has w j ≡ has (row t i) j && keeps next prev i j) → w ≡ setOf n (λ j. leg t i j && not (nextTaken n t i j || prevTaken n (columns n t) i j))
-  unfolding goes leg
-  swept-row i w li h bits = ext 64 w (setOf n kept) h (lt-of-lt-of-le (setOf-lt n kept) (pow-mono le)) (λ j l. bits j l ∙ ⊎-elim (inside j) (beyond j) (below? j n))
-    where
-      kept : ℕ → Bool
-      kept j = leg t i j && not (goes i j)
+        keep : ℕ → Bool
+        keep = keeps next (bitAnd (row t i) sole) (row t i)
 
-      inside : (j : ℕ) → j < n → has (row t i) j && keeps next prev i j ≡ has (setOf n kept) j
-      inside j lj =
-          ⊎-elim
-          (λ (e : leg t i j ≡ true). ap (λ (b : Bool). has (row t i) j && b) (keeps-is i j li lj e) ∙ sym (has-setOf n kept j lj))
-          (λ (e : leg t i j ≡ false). ap (λ (b : Bool). b && keeps next prev i j) e ∙ sym (has-setOf n kept j lj ∙ ap (λ (b : Bool). b && not (goes i j)) e)) (cases (leg t i j))
+        inside : (j : ℕ) → j < n → has (row t i) j && keep j ≡ has (setOf n kept) j
+        inside j lj =
+            ⊎-elim
+            (λ (e : leg t i j ≡ true). ap (λ (b : Bool). has (row t i) j && b) (keeps-is i j li lj e) ∙ sym (has-setOf n kept j lj))
+            (λ (e : leg t i j ≡ false). ap (λ (b : Bool). b && keep j) e ∙ sym (has-setOf n kept j lj ∙ ap (λ (b : Bool). b && not (goes i j)) e)) (cases (leg t i j))
 
-      beyond : (j : ℕ) → n ≤ j → has (row t i) j && keeps next prev i j ≡ has (setOf n kept) j
-      beyond j g = ap (λ (b : Bool). b && keeps next prev i j) (has-above n (row t i) j (stray-row n t le clean i li) g) ∙ sym (setOf-above n kept j g)
+        beyond : (j : ℕ) → n ≤ j → has (row t i) j && keep j ≡ has (setOf n kept) j
+        beyond j g = ap (λ (b : Bool). b && keep j) (has-above n (row t i) j (stray-row n t le clean i li) g) ∙ sym (setOf-above n kept j g)
+
+    -- where no station has one leg only, each row is left as it is
+    pub untouched-row : next .once ≡ 0 → sole ≡ 0 → (i : ℕ) → i < n → row t i ≡ setOf n (λ j. leg t i j && not (nextTaken n t i j || prevTaken n (columns n t) i j))
+    untouched-row none-out none-in i li = swept-row i (row t i) li (row-fits i li) (λ j l. sym (ap (λ (b : Bool). has (row t i) j && b) (all j l) ∙ and-true (has (row t i) j)))
+      where
+        none-once : (j : ℕ) → has (next .once) j ≡ false
+        none-once j = ap (λ (w : ℕ). has w j) none-out ∙ has-zero j
+
+        none-twice : (j : ℕ) → j < 64 → has (next .twice) j ≡ false
+        none-twice j l = is-false (has (next .twice) j) (λ e. not-both (gn .once j l ∙ twice-once n (only t j) (sym (gn .twice j l) ∙ e)) (none-once j))
+
+        own-none : bitAnd (row t i) sole ≡ 0
+        own-none = no-member (bitAnd (row t i) sole) (λ k. has-and (row t i) sole k ∙ ap (λ (w : ℕ). has (row t i) k && has w k) none-in ∙ ap (λ (b : Bool). has (row t i) k && b) (has-zero k) ∙ and-false (has (row t i) k))
+
+        all : (j : ℕ) → j < 64 → keeps next (bitAnd (row t i) sole) (row t i) j ≡ true
+        all j l =
+            ap (λ (w : ℕ). keeps next w (row t i) j) own-none
+            ∙ rw (none-once j, none-twice j l, zero-single) (taut1 (λ a. not (cond a false false) && true) (λ a. true) refl (single (row t i)))
 
 -- ---- the rows of the swept table
 
@@ -143,16 +182,23 @@ pub swept-beyond : (n : ℕ) (t : List ℕ) → stray n t ≡ false → (i : ℕ
 unfolding sweptRow
 swept-beyond n t e i g l = stray-beyond n t e i g l ∙ sym (cond-false _ 0 (le-ltb i n g))
 
+-- where no station has one leg only, no leg goes
+pub swept-same : (n : ℕ) (t : List ℕ) → n ≤ 64 → stray n t ≡ false → length t ≡ 64 → (next : Singles) → SinglesOf n t next → (sole : ℕ) → sole ≡ setOf 64 (soleIn next) → next .once ≡ 0 → sole ≡ 0 → t ≡ swept n t
+swept-same n t le clean len next gn sole alone none-out none-in =
+    upto-of 64 (sweptRow n t) 0 t len (λ i l. ⊎-elim
+    (λ (m : i < n). swept-in n t i (row t i) m (untouched-row n t le clean next gn sole alone none-out none-in i m)) (λ (g : n ≤ i). swept-beyond n t clean i g l) (below? i n))
+    ∙ swept-rows n t
+
 -- ---- the verdict
 
-module _ (n : ℕ) (t : List ℕ) (le : n ≤ 64) (clean : stray n t ≡ false) (next prev : Singles) (gn : SinglesOf n t next) (cols : List ℕ) (is-cols : cols ≡ columns n t) (gc : SinglesOf n cols prev) where
-  pub of-columns : SinglesOf n (columns n t) prev
-  of-columns = subst (λ (c : List ℕ). SinglesOf n c prev) is-cols gc
+module _ (n : ℕ) (t : List ℕ) (le : n ≤ 64) (clean : stray n t ≡ false) (next : Singles) (gn : SinglesOf n t next) (fits : next .reached < 2 ^ 64) (full : ℕ) (all : full ≡ setOf 64 (λ j. ltb j n)) where
+  told : next .empty || not (eqb (next .reached) full) ≡ stuck n t
+  told = ap (λ (w : ℕ). next .empty || not (eqb (next .reached) w)) all ∙ stuck-is n t le clean next gn fits
 
-  pub sweep-none : next .empty || prev .empty ≡ true → saysNone t ≡ sweep n t
+  pub sweep-none : next .empty || not (eqb (next .reached) full) ≡ true → sweep n t ≡ saysNone t
   unfolding sweep
-  sweep-none e = sym (cond-true (saysNone t) (leaves (swept n t)) (sym (stuck-is n t le clean next prev gn of-columns) ∙ e))
+  sweep-none e = cond-true (saysNone t) (leaves (swept n t)) (sym told ∙ e)
 
-  pub sweep-left : next .empty || prev .empty ≡ false → (left : List ℕ) → left ≡ swept n t → leaves left ≡ sweep n t
+  pub sweep-left : next .empty || not (eqb (next .reached) full) ≡ false → (left : List ℕ) → left ≡ swept n t → sweep n t ≡ leaves left
   unfolding sweep
-  sweep-left e left q = ap leaves q ∙ sym (cond-false (saysNone t) (leaves (swept n t)) (sym (stuck-is n t le clean next prev gn of-columns) ∙ e))
+  sweep-left e left q = cond-false (saysNone t) (leaves (swept n t)) (sym told ∙ e) ∙ ap leaves (sym q)

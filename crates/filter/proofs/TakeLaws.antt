@@ -12,7 +12,7 @@ use Rattle.bitset.specs.Sets.{size}
 use Rattle.bitset.proofs.BoolLaws.{cases, cond-true, cond-false}
 use Rattle.bitset.proofs.OnesLaws.{size-ones}
 use Rattle.bitset.proofs.UptoLaws.{length-upto}
-use Rattle.circuit.specs.Legs.{col}
+use Rattle.circuit.specs.Legs.{col, columns}
 use Rattle.circuit.specs.declared.verdict.Verdict.{Verdict}
 use Rattle.circuit.specs.Verdict.{leaves}
 use Rattle.separator.specs.Levels.{inner}
@@ -21,7 +21,7 @@ use Rattle.separator.proofs.InnerLaws.{innerFrom, inner-start, inner-step, inne
 use Rattle.filter.specs.Pass.{passOver}
 use Rattle.circuit.specs.inner.Tables.{Columned, TableTaken}
 use Rattle.filter.specs.declared.rule.Taken.{Taken}
-use Rattle.filter.specs.inner.Steps.{RowsTaken, limited}
+use Rattle.filter.specs.inner.Steps.{RowsLeft, RowsTaken, limited}
 
 -- what was taken of a verdict was taken of an equal one
 pub taken-as : {n : ℕ} {u v : Verdict} {none : Bool} {rows cols : List ℕ} → u ≡ v → TableTaken n u none rows cols → TableTaken n v none rows cols
@@ -29,6 +29,11 @@ taken-as e T = record { verdict = sym e ∙ T .verdict; table = T .table }
 
 pub rows-as : {n : ℕ} {u v : Verdict} {r : Taken} {rows cols : List ℕ} → u ≡ v → RowsTaken n u r rows cols → RowsTaken n v r rows cols
 rows-as e T = record { verdict = sym e ∙ T .verdict; clean = T .clean; len = T .len; wide = T .wide; columns = T .columns }
+
+-- the columns of the rows before are those of the rows after, where no leg went
+pub beside : {n : ℕ} {u v : Verdict} {r : Taken} {t rows cols : List ℕ} → Columned n t cols → u ≡ v → RowsLeft n u r t rows → RowsTaken n v r rows cols
+beside {n} {t = t} C e L =
+    record { verdict = sym e ∙ L .verdict; clean = L .clean; len = L .len; wide = ap length (C .columns) ∙ length-upto 64 (col n t); columns = λ q. C .columns ∙ ap (columns n) (sym (L .same q)) }
 
 -- columns in step with the rows are not stale
 pub in-step : {n : ℕ} {v : Verdict} {none : Bool} {rows cols : List ℕ} → TableTaken n v none rows cols → RowsTaken n v (record { none = none; stale = false }) rows cols

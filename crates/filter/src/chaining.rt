@@ -129,14 +129,14 @@ pub(crate) fn chain_rows(rows: &mut [u64; 64], cols: &[u64; 64], n: usize) -> Ta
     ensures { λ r. ⌜ RowsTaken n (chain n (now (rows .entry))) r (now (rows .exit)) (now (cols .entry)) ⌝ }
 {
     let next = single_words(rows, n);
-    let prev = single_words(cols, n);
-    if (next.which == 0) & (prev.which == 0) {
+    let sole = next.sole();
+    if (next.which == 0) & (sole == 0) {
         return Taken {
             none: false,
             stale: false,
         };
     }
-    let out = compulsory_legs(rows, n, prev.which);
+    let out = compulsory_legs(rows, n, sole);
     let into = compulsory_legs(cols, n, next.which);
     if out.forked | into.forked {
         return Taken {

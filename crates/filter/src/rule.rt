@@ -61,7 +61,7 @@ pub(crate) fn take(
     ensures { λ r. ⌜ RowsTaken n (says rule n (now (rows .entry)) limit) r (now (rows .exit)) (now (cols .exit)) ⌝ }
 {
     match rule {
-        Rule::Sweep => sweep_rows(rows, cols, n),
+        Rule::Sweep => sweep_rows(rows, n),
         Rule::Chain => chain_rows(rows, cols, n),
         Rule::Pass(seed) => {
             let none = pass_on(rows, cols, n, limit, seed - 1);

@@ -29,6 +29,13 @@ limited n limit s t = cond (leb (size n s) limit) (level n t s) (leaves t)
 abbrev pub LevelsBelow : ℕ → ℕ → List ℕ → Type 0
 LevelsBelow n count level = (k : ℕ) → k < count → getD level k 0 < 2 ^ n
 
+-- the verdict v of the rows t was taken on them; columns of t are stale, unless the rows are still t
+pub record RowsLeft (n : ℕ) (v : Verdict) (r : Taken) (t rows : List ℕ) : Type 0 where
+  pub verdict : v ≡ record { none = r .none; left = rows }
+  pub clean : stray n rows ≡ false
+  pub len : length rows ≡ 64
+  pub same : r .stale ≡ false → rows ≡ t
+
 -- the verdict v was taken on the rows; their columns are the words cols, unless these are stale
 pub record RowsTaken (n : ℕ) (v : Verdict) (r : Taken) (rows cols : List ℕ) : Type 0 where
   pub verdict : v ≡ record { none = r .none; left = rows }

@@ -1,9 +1,8 @@
 -- `filter::chain_rows` meets its contract.
 use borrow.Author.Needs.{needs}
-use mathlib.Core.Path.{_≡_, sym, ap, _∙_, subst}
+use mathlib.Core.Path.{_≡_, sym, ap, _∙_}
 use mathlib.Core.Bool.{Bool, true, false}
-use mathlib.Core.List.{List}
-use Prim.Native.Nat.{ℕ, _^_, _<_}
+use Prim.Native.Nat.{_^_, _<_}
 use native.Mathlib.Omega.{arith}
 use lib.Dec.{eqb}
 use lib.ListN.{length}
@@ -14,11 +13,10 @@ use Rattle.bitset.proofs.BoolLaws.{and-l, and-r}
 use Rattle.bitset.proofs.UptoLaws.{length-upto}
 use Rattle.circuit.specs.Legs.{col, columns}
 use Rattle.circuit.proofs.LegsLaws.{length-without}
-use Rattle.circuit.proofs.StateLaws.{stray-without}
+use Rattle.circuit.proofs.StateLaws.{stray-row, stray-without}
 use Rattle.circuit.specs.State.{stray}
 use Rattle.filter.specs.Chain.{chain}
 use Rattle.filter.specs.inner.Steps.{RowsTaken}
-use Rattle.filter.specs.inner.Singles.{SinglesOf}
 use Rattle.filter.proofs.TrailLaws.{chain-idle}
 use Rattle.filter.proofs.ChainedLaws.{Gathered, gathered, singles-free, fork-none, legs-square, part-lt, loop-none, closed-left}
 use Rattle.filter.proofs.chaining.chain_rows.Statement.{statement}
@@ -27,14 +25,14 @@ use Rattle.filter.proofs.chaining.chain_rows.Tie as tie
 -- ---- places in the code: some station has one leg only; the compulsory legs are there; no two leave or enter one station; the chains are found; the
 -- loops are tested
 
-abbrev start : tie.After-single-words2 → tie.Start
+abbrev start : tie.After-sole → tie.Start
 start c = c .before .before .before
 
 abbrev lone : tie.After-compulsory-legs2 → tie.Else1
 lone c = c .before .before .before
 
 abbrev given : tie.After-compulsory-legs2 → tie.Start
-given c = start (lone c .before .before .before)
+given c = start (lone c .before .before)
 
 abbrev single : tie.Else2 → tie.After-compulsory-legs2
 single c = c .before .before .before
@@ -51,11 +49,11 @@ legs c =
     let fi : Fits w64 (c .compulsory-legs2 .result .some) = search needs in
     let s = given c in
     let C = s .pre .2 in
-    let prev = lone c .before .before .before in
-    let next = prev .before in
+    let o = lone c .before .before in
+    let next = o .before .single-words in
     let out = c .before .compulsory-legs in
     let into = c .compulsory-legs2 in
-    gathered (s .args .n) (s .args .rows .now) (s .pre .1) (C .clean) (s .args .cols .now) (C .columns) (next .single-words .result) (prev .single-words2 .result) (next .single-words .ensures) (prev .single-words2 .ensures)
+    gathered (s .args .n) (s .args .rows .now) (s .pre .1) (C .clean) (s .args .cols .now) (C .columns) (next .result) (next .ensures) (o .sole .result) (o .sole .ensures)
     (out .result) (into .result) (fo .fits) (fi .fits) (out .ensures) (into .ensures)
 
 met-fits : (c : tie.After-find-chains) → c .find-chains .result .met < 2 ^ 64
@@ -69,25 +67,24 @@ untouched s none e =
     record { verdict = e; clean = C .clean; len = C .len; wide = ap length (C .columns) ∙ length-upto 64 (col (s .args .n) _); columns = λ _. C .columns }
 
 single-words-requires : tie.Need-single-words-requires
-single-words-requires c κs = search needs
+single-words-requires c κs = let s = c .before in (s .pre .1, stray-row (s .args .n) _ (s .pre .1) (s .pre .2 .clean))
 
-single-words-requires-2 : tie.Need-single-words-requires-2
-single-words-requires-2 c κs = search needs
+sole-requires : tie.Need-sole-requires
+sole-requires c κs = search needs
 
 returns : tie.Need-returns
 returns c =
-    let prev = c .before .before .before in
-    let next = prev .before in
-    let x = next .single-words .result .which in
-    let y = prev .single-words2 .result .which in
-    let s = start prev in
+    let o = c .before .before in
+    let next = o .before .single-words in
+    let x = next .result .which in
+    let y = o .sole .result in
+    let s = start o in
     let n = s .args .n in
     let t = s .args .rows .now in
     let C = s .pre .2 in
     untouched s false
     (chain-idle n t (s .pre .1) (C .clean) (C .len)
-    (singles-free n t (s .pre .1) (C .clean) (next .single-words .result) (prev .single-words2 .result) (next .single-words .ensures)
-    (subst (λ (cols : List ℕ). SinglesOf n cols (prev .single-words2 .result)) (C .columns) (prev .single-words2 .ensures)) (eqb-true x 0 (and-l (eqb x 0) (eqb y 0) (c .if1 .taken))) (eqb-true y 0 (and-r (eqb x 0) (eqb y 0) (c .if1 .taken)))))
+    (singles-free n t (s .pre .1) (C .clean) (next .result) (next .ensures) y (o .sole .ensures) (eqb-true x 0 (and-l (eqb x 0) (eqb y 0) (c .if1 .taken))) (eqb-true y 0 (and-r (eqb x 0) (eqb y 0) (c .if1 .taken)))))
 
 compulsory-legs-requires : tie.Need-compulsory-legs-requires
 compulsory-legs-requires c κs = search needs
@@ -146,7 +143,7 @@ chain-rows-spec =
     tie.close
     (tie.spec
     single-words-requires
-    single-words-requires-2
+    sole-requires
     returns
     compulsory-legs-requires
     compulsory-legs-requires-2

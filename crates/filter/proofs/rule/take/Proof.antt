@@ -7,7 +7,7 @@ use Rattle.bitset.proofs.OutsideLaws.{inside}
 use Rattle.filter.specs.declared.rule.Rule.{Rule}
 use Rattle.filter.specs.Pass.{pass}
 use Rattle.filter.specs.Rule.{says, straySeed}
-use Rattle.filter.proofs.TakeLaws.{rows-as, in-step}
+use Rattle.filter.proofs.TakeLaws.{rows-as, beside, in-step}
 use Rattle.filter.proofs.rule.take.Statement.{statement}
 use Rattle.filter.proofs.rule.take.Tie as tie
 
@@ -15,7 +15,7 @@ enum-told : tie.Need-enum-told
 enum-told c = search needs
 
 sweep-rows-requires : tie.Need-sweep-rows-requires
-sweep-rows-requires c κs = let s = c .before .before .before .before in (s .pre .1, s .pre .3)
+sweep-rows-requires c κs = let s = c .before .before .before in (s .pre .1, s .pre .3 .len, s .pre .3 .clean)
 
 enum-told-2 : tie.Need-enum-told-2
 enum-told-2 c = search needs
@@ -52,9 +52,10 @@ pass-on-requires c κs =
 returns : tie.Need-returns
 unfolding says
 returns c =
-    let told = c .before .before .before in
-    let a = told .before .before .args in
-    rows-as (ap (λ (r : Rule). says r (a .n) (a .rows .now) (a .limit)) (sym (told .enum-told .given .1))) (c .sweep-rows .ensures)
+    let told = c .before .before in
+    let s = told .before .before in
+    let a = s .args in
+    beside (s .pre .3) (ap (λ (r : Rule). says r (a .n) (a .rows .now) (a .limit)) (sym (told .enum-told .given .1))) (c .sweep-rows .ensures)
 
 returns-2 : tie.Need-returns-2
 unfolding says

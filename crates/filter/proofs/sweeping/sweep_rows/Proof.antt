@@ -1,97 +1,113 @@
 -- `filter::sweep_rows` meets its contract.
 use borrow.Author.Needs.{needs}
-use mathlib.Core.Path.{_≡_, sym, ap, _∙_}
-use mathlib.Core.Bool.{false}
+use mathlib.Core.Path.{_≡_, refl, sym, ap, _∙_}
+use mathlib.Core.Bool.{Bool, true, false, not, _||_}
 use mathlib.Core.List.{List}
-use Prim.Native.Nat.{ℕ}
+use Prim.Native.Nat.{ℕ, _^_, _<_}
+use lib.Dec.{eqb}
 use lib.ListN.{length}
+use mir.Syntax.{w64}
+use mir.Val.{Fits}
+use borrow.Author.Tests.{eqb-true}
+use Rattle.bitset.proofs.BoolLaws.{and-l, and-r}
 use Rattle.bitset.proofs.UptoLaws.{length-upto}
 use Rattle.circuit.specs.declared.verdict.Verdict.{Verdict}
-use Rattle.circuit.specs.Legs.{col, columns}
 use Rattle.circuit.specs.State.{stray}
-use Rattle.circuit.specs.Verdict.{leaves}
-use Rattle.filter.specs.Sweep.{sweep}
+use Rattle.circuit.specs.Verdict.{saysNone, leaves}
+use Rattle.circuit.proofs.StateLaws.{stray-row}
+use Rattle.filter.specs.Sweep.{swept, sweep}
 use Rattle.filter.proofs.SweepLaws.{sweep-sound}
-use Rattle.filter.proofs.SweptLaws.{sweptRow, swept-rows, of-columns, sweep-none, sweep-left}
+use Rattle.filter.proofs.SweptLaws.{sweptRow, swept-rows, swept-same, sweep-none, sweep-left}
 use Rattle.filter.proofs.sweeping.sweep_rows.Statement.{statement}
 use Rattle.filter.proofs.sweeping.sweep_rows.Tie as tie
 
-single-words-requires : tie.Need-single-words-requires
-single-words-requires c κs = search needs
+-- ---- places in the code: the rows are read; no row and no column is empty; some station has one leg only
 
-single-words-requires-2 : tie.Need-single-words-requires-2
-single-words-requires-2 c κs = search needs
+abbrev start : tie.After-full → tie.Start
+start c = c .before .before .before
+
+abbrev full : tie.Else1 → tie.After-full
+full c = c .before .before .before
+
+abbrev sole : tie.Else2 → tie.After-sole
+sole c = c .before .before
+
+abbrev lone : tie.After-sweep-words → tie.Else2
+lone c = c .before .before
+
+-- some row or some column is empty
+abbrev stuck : tie.After-full → Bool
+stuck c = let next = c .before .single-words .result in next .empty || not (eqb (next .reached) (c .full .result))
+
+reached-fits : (c : tie.After-full) → c .before .single-words .result .reached < 2 ^ 64
+reached-fits c = let f : Fits w64 (c .before .single-words .result .reached) = search needs in f .fits
+
+none : (c : tie.After-full) → stuck c ≡ true → sweep (start c .args .n) (start c .args .rows .now) ≡ saysNone (start c .args .rows .now)
+none c e =
+    let s = start c in
+    let next = c .before .single-words in
+    sweep-none (s .args .n) (s .args .rows .now) (s .pre .0) (s .pre .2) (next .result) (next .ensures) (reached-fits c) (c .full .result) (c .full .ensures) e
+
+left : (c : tie.After-full) → stuck c ≡ false → (rows : List ℕ) → rows ≡ swept (start c .args .n) (start c .args .rows .now) → sweep (start c .args .n) (start c .args .rows .now) ≡ leaves rows
+left c e =
+    let s = start c in
+    let next = c .before .single-words in
+    sweep-left (s .args .n) (s .args .rows .now) (s .pre .0) (s .pre .2) (next .result) (next .ensures) (reached-fits c) (c .full .result) (c .full .ensures) e
+
+single-words-requires : tie.Need-single-words-requires
+single-words-requires c κs = let s = c .before in (s .pre .0, stray-row (s .args .n) _ (s .pre .0) (s .pre .2))
+
+full-requires : tie.Need-full-requires
+full-requires c κs = search needs
 
 returns : tie.Need-returns
 returns c =
-    let prev = c .before .before .before in
-    let next = prev .before in
-    let s = next .before .before in
-    let C = s .pre .1 in
+    let f = c .before .before .before in
+    let s = start f in
+    record { verdict = none f (c .if1 .taken); clean = s .pre .2; len = s .pre .1; same = λ _. refl }
+
+sole-requires : tie.Need-sole-requires
+sole-requires c κs = search needs
+
+returns-2 : tie.Need-returns-2
+returns-2 c =
+    let o = c .before .before in
+    let f = full (o .before) in
+    let s = start f in
+    let next = f .before .single-words in
+    let x = next .result .once in
+    let y = o .sole .result in
     record {
-      verdict = sym (sweep-none (s .args .n) (s .args .rows .now) (s .pre .0) (C .clean) (next .single-words .result) (prev .single-words2 .result) (next .single-words .ensures) (s .args .cols .now) (C .columns) (prev .single-words2 .ensures) (c .if1 .taken));
-      clean = C .clean;
-      len = C .len;
-      wide = ap length (C .columns) ∙ length-upto 64 (col (s .args .n) _);
-      columns = λ _. C .columns;
-    }
-
--- ---- places in the code: no row and no column is empty; the rows are swept
-
-abbrev start : tie.Else1 → tie.Start
-start c = c .before .before .before .before .before .before
-
-abbrev full : tie.After-sweep-words → tie.Else1
-full c = c .before .before
-
--- what the sweep leaves, and its verdict
-record Left (n : ℕ) (t left : List ℕ) : Type 0 where
-  verdict : sweep n t ≡ leaves left
-  clean : stray n left ≡ false
-  len : length left ≡ 64
-
-left : (c : tie.After-sweep-words) → Left (start (full c) .args .n) (start (full c) .args .rows .now) (c .sweep-words .last .0)
-left c =
-    let prev = full c .before .before .before in
-    let next = prev .before in
-    let s = start (full c) in
-    let n = s .args .n in
-    let t = s .args .rows .now in
-    let C = s .pre .1 in
-    let is = sweep-left n t (s .pre .0) (C .clean) (next .single-words .result) (prev .single-words2 .result) (next .single-words .ensures) (s .args .cols .now) (C .columns) (prev .single-words2 .ensures) (full c .if1 .left) _ (c .sweep-words .ensures .0) in
-    record {
-      verdict = sym is;
-      clean = ap (λ (v : Verdict). stray n (v .left)) is ∙ sweep-sound n t (s .pre .0) .clean (C .clean);
-      len = ap length (c .sweep-words .ensures .0 ∙ sym (swept-rows n t)) ∙ length-upto 64 (sweptRow n t);
+      verdict = left f (o .before .if1 .left) _ (swept-same (s .args .n) (s .args .rows .now) (s .pre .0) (s .pre .2) (s .pre .1) (next .result) (next .ensures) y (o .sole .ensures)
+          (eqb-true x 0 (and-l (eqb x 0) (eqb y 0) (c .if2 .taken))) (eqb-true y 0 (and-r (eqb x 0) (eqb y 0) (c .if2 .taken))));
+      clean = s .pre .2;
+      len = s .pre .1;
+      same = λ _. refl;
     }
 
 sweep-words-requires : tie.Need-sweep-words-requires
 sweep-words-requires c κs =
-    let prev = c .before .before .before .before in
-    let next = prev .before in
-    let s = start (c .before) in
-    let C = s .pre .1 in (
-      s .pre .0,
-      C .len,
-      C .clean,
-      next .single-words .ensures,
-      of-columns (s .args .n) (s .args .rows .now) (s .pre .0) (C .clean) (next .single-words .result) (prev .single-words2 .result) (next .single-words .ensures) (s .args .cols .now) (C .columns) (prev .single-words2 .ensures),
-    )
+    let o = sole (c .before) in
+    let f = full (o .before) in
+    let s = start f in
+    (s .pre .0, s .pre .1, s .pre .2, f .before .single-words .ensures, o .sole .ensures)
 
-returns-2 : tie.Need-returns-2
-returns-2 c =
-    let s = start (full c) in
-    let C = s .pre .1 in
-    let L = left c in
+returns-3 : tie.Need-returns-3
+returns-3 c =
+    let o = sole (lone c) in
+    let f = full (o .before) in
+    let s = start f in
+    let n = s .args .n in
+    let t = s .args .rows .now in
+    let is = c .sweep-words .ensures .0 in
+    let v = left f (o .before .if1 .left) _ is in
     record {
-      verdict = L .verdict;
-      clean = L .clean;
-      len = L .len;
-      wide = ap length (C .columns) ∙ length-upto 64 (col (s .args .n) _);
-      columns = λ e. C .columns ∙ ap (columns (s .args .n)) (sym (c .sweep-words .ensures .1 e));
+      verdict = v;
+      clean = ap (λ (v : Verdict). stray n (v .left)) (sym v) ∙ sweep-sound n t (s .pre .0) .clean (s .pre .2);
+      len = ap length (is ∙ sym (swept-rows n t)) ∙ length-upto 64 (sweptRow n t);
+      same = c .sweep-words .ensures .1;
     }
 
 pub sweep-rows-spec : {M : Type 1} → statement M
 sweep-rows-spec =
-    tie.close
-    (tie.spec single-words-requires single-words-requires-2 returns sweep-words-requires returns-2)
+    tie.close (tie.spec single-words-requires full-requires returns sole-requires returns-2 sweep-words-requires returns-3)

@@ -4,6 +4,7 @@ use mathlib.Core.Path.{_≡_, refl, ap, _∙_}
 use mathlib.Core.Bool.{false, _&&_}
 use Prim.Native.Nat.{ℕ, _-_, _≤_}
 use native.Mathlib.Omega.{arith}
+use lib.Bits.{bitAnd}
 use lib.ListN.{getD, set}
 use lib.Seq.{set-getD}
 use borrow.Author.Tests.{eqb-true, not-false}
@@ -16,11 +17,11 @@ use Rattle.filter.proofs.sweeping.sweep_words.Statement.{statement}
 use Rattle.filter.proofs.sweeping.sweep_words.Tie as tie
 
 abbrev Inv-loop : tie.InvT-loop
-Inv-loop rows₀ n next prev struck₀ i₀ rows struck i =
+Inv-loop rows₀ n next sole struck₀ i₀ rows struck i =
     (i ≤ n) × Changed 64 (sweptRow n rows₀) rows₀ i rows × (struck ≡ false → rows ≡ rows₀)
 
 abbrev μ-loop : tie.MeasureT-loop
-μ-loop rows₀ n next prev struck₀ i₀ rows struck i = n - i
+μ-loop rows₀ n next sole struck₀ i₀ rows struck i = n - i
 
 loop-holds : tie.Need-loop-holds Inv-loop μ-loop
 loop-holds c = (omega arith, changed-none 64 _ _ (c .pre .1), λ _. refl)
@@ -56,8 +57,8 @@ loop-again c =
       omega arith,
       changed-more (r .result) (v .inv .1) (omega arith)
           (swept-in (a .n) (a .rows .now) i (r .result) (omega arith)
-          (swept-row (a .n) (a .rows .now) (s .pre .0) (s .pre .2) (a .next) (a .prev) (s .pre .3) (s .pre .4) i (r .result) (omega arith) (r .ok)
-          (λ j l. r .ensures j l ∙ ap (λ (w : ℕ). has w j && keeps (a .next) (a .prev) i j) (changed-here 0 (v .inv .1))))),
+          (swept-row (a .n) (a .rows .now) (s .pre .0) (s .pre .2) (a .next) (s .pre .3) (a .sole) (s .pre .4) i (r .result) (omega arith) (r .ok)
+          (λ j l. r .ensures j l ∙ ap (λ (w : ℕ). has w j && keeps (a .next) (bitAnd w (a .sole)) w j) (changed-here 0 (v .inv .1))))),
       λ e.
           let same : r .result ≡ getD (v .rows) i 0 = eqb-true (r .result) (getD (v .rows) i 0) (not-false _ (or-false-r (v .struck) _ e)) in
           ap (set (v .rows) i) same ∙ set-getD (v .rows) i 0 ∙ v .inv .2 (or-false-l (v .struck) _ e),

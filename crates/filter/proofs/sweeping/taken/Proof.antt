@@ -5,14 +5,14 @@ use Rattle.bitset.proofs.BoolLaws.{cond-true, cond-false}
 use Rattle.filter.proofs.sweeping.taken.Statement.{statement}
 use Rattle.filter.proofs.sweeping.taken.Tie as tie
 
-contains-requires : tie.Need-contains-requires
-contains-requires c κs = search needs
+is-single-requires : tie.Need-is-single-requires
+is-single-requires c κs = search needs
 
 returns : tie.Need-returns
-returns c = sym (cond-true _ _ (sym (c .before .contains .ensures) ∙ c .if1 .taken))
+returns c = sym (cond-true _ _ (sym (c .before .is-single .ensures) ∙ c .if1 .taken))
 
 returns-2 : tie.Need-returns-2
-returns-2 c = sym (cond-false _ _ (sym (c .before .contains .ensures) ∙ c .if1 .left))
+returns-2 c = sym (cond-false _ _ (sym (c .before .is-single .ensures) ∙ c .if1 .left))
 
 pub taken-spec : {M : Type 1} → statement M
-taken-spec = tie.close (tie.spec contains-requires returns returns-2)
+taken-spec = tie.close (tie.spec is-single-requires returns returns-2)
