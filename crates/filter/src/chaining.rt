@@ -12,7 +12,7 @@ ghost use Rattle.circuit.specs.State.{stray};
 ghost use Rattle.circuit.specs.inner.Tables.{Square, Columned};
 ghost use Rattle.filter.specs.Chain.{nexts, joined, chain};
 ghost use Rattle.filter.specs.inner.Chains.{compulsoryWord, CompulsoryOf, ChainsOf, ShortLoop};
-ghost use Rattle.filter.specs.inner.Steps.{RowsTaken};
+ghost use Rattle.filter.specs.inner.Steps.{RowsLeft};
 
 // The compulsory legs of the stations on one side, out or in: those of each station, the stations that have some, and whether one has two.
 struct CompulsoryLegs {
@@ -126,14 +126,14 @@ fn strike_closing(rows: &mut [u64; 64], n: usize, closing: &[u64; 64]) -> bool
 // The chain step on the rows; the columns are stale where a leg went. Where no station has one leg only, no leg is compulsory.
 pub(crate) fn chain_rows(rows: &mut [u64; 64], cols: &[u64; 64], n: usize) -> Taken
     requires { ⌜ (2 ≤ n) × (n ≤ 64) × Columned n (now rows) (now cols) ⌝ }
-    ensures { λ r. ⌜ RowsTaken n (chain n (now (rows .entry))) r (now (rows .exit)) (now (cols .entry)) ⌝ }
+    ensures { λ r. ⌜ RowsLeft n (chain n (now (rows .entry))) r (now (rows .entry)) (now (rows .exit)) ⌝ }
 {
     let next = single_words(rows, n);
     let sole = next.sole();
     if (next.which == 0) & (sole == 0) {
         return Taken {
             none: false,
-            stale: false,
+            struck: false,
         };
     }
     let out = compulsory_legs(rows, n, sole);
@@ -141,7 +141,7 @@ pub(crate) fn chain_rows(rows: &mut [u64; 64], cols: &[u64; 64], n: usize) -> Ta
     if out.forked | into.forked {
         return Taken {
             none: true,
-            stale: false,
+            struck: false,
         };
     }
     let legs = into.legs;
@@ -149,13 +149,13 @@ pub(crate) fn chain_rows(rows: &mut [u64; 64], cols: &[u64; 64], n: usize) -> Ta
     if short_loop(&legs, n, into.some & !found.met) {
         return Taken {
             none: true,
-            stale: false,
+            struck: false,
         };
     }
     let closing = found.closing;
     let struck = strike_closing(rows, n, &closing);
     Taken {
         none: false,
-        stale: struck,
+        struck,
     }
 }

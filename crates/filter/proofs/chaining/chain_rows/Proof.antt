@@ -1,6 +1,6 @@
 -- `filter::chain_rows` meets its contract.
 use borrow.Author.Needs.{needs}
-use mathlib.Core.Path.{_≡_, sym, ap, _∙_}
+use mathlib.Core.Path.{_≡_, refl, ap, _∙_}
 use mathlib.Core.Bool.{Bool, true, false}
 use Prim.Native.Nat.{_^_, _<_}
 use native.Mathlib.Omega.{arith}
@@ -10,13 +10,11 @@ use mir.Syntax.{w64}
 use mir.Val.{Fits}
 use borrow.Author.Tests.{eqb-true}
 use Rattle.bitset.proofs.BoolLaws.{and-l, and-r}
-use Rattle.bitset.proofs.UptoLaws.{length-upto}
-use Rattle.circuit.specs.Legs.{col, columns}
 use Rattle.circuit.proofs.LegsLaws.{length-without}
 use Rattle.circuit.proofs.StateLaws.{stray-row, stray-without}
 use Rattle.circuit.specs.State.{stray}
 use Rattle.filter.specs.Chain.{chain}
-use Rattle.filter.specs.inner.Steps.{RowsTaken}
+use Rattle.filter.specs.inner.Steps.{RowsLeft}
 use Rattle.filter.proofs.TrailLaws.{chain-idle}
 use Rattle.filter.proofs.ChainedLaws.{Gathered, gathered, singles-free, fork-none, legs-square, part-lt, loop-none, closed-left}
 use Rattle.filter.proofs.chaining.chain_rows.Statement.{statement}
@@ -61,10 +59,8 @@ met-fits c = let f : Fits w64 (c .find-chains .result .met) = search needs in f 
 
 -- where no leg goes, the rows are as they were
 untouched : (s : tie.Start) (none : Bool) → chain (s .args .n) (s .args .rows .now) ≡ record { none = none; left = s .args .rows .now }
-    → RowsTaken (s .args .n) (chain (s .args .n) (s .args .rows .now)) (record { none = none; stale = false }) (s .args .rows .now) (s .args .cols .now)
-untouched s none e =
-    let C = s .pre .2 in
-    record { verdict = e; clean = C .clean; len = C .len; wide = ap length (C .columns) ∙ length-upto 64 (col (s .args .n) _); columns = λ _. C .columns }
+    → RowsLeft (s .args .n) (chain (s .args .n) (s .args .rows .now)) (record { none = none; struck = false }) (s .args .rows .now) (s .args .rows .now)
+untouched s none e = let C = s .pre .2 in record { verdict = e; clean = C .clean; len = C .len; same = λ _. refl }
 
 single-words-requires : tie.Need-single-words-requires
 single-words-requires c κs = let s = c .before in (s .pre .1, stray-row (s .args .n) _ (s .pre .1) (s .pre .2 .clean))
@@ -134,8 +130,7 @@ returns-4 c =
       verdict = closed-left (legs b) (e .if2 .left) (found .find-chains .result) (met-fits found) (found .find-chains .ensures) _ (t .before .short-loop .ensures) (t .if3 .left) _ left;
       clean = ap (stray n) left ∙ stray-without n (s .args .rows .now) _ (s .pre .1) (C .clean);
       len = ap length left ∙ length-without n (s .args .rows .now) _;
-      wide = ap length (C .columns) ∙ length-upto 64 (col n _);
-      columns = λ e. C .columns ∙ ap (columns n) (sym (c .strike-closing .ensures .1 e));
+      same = c .strike-closing .ensures .1;
     }
 
 pub chain-rows-spec : {M : Type 1} → statement M
