@@ -1,7 +1,7 @@
 -- A step of the run by cases, and the run's loop, as the code goes through them. Assumes nothing.
-use mathlib.Core.Path.{_≡_, refl, sym, ap, ap₂, _∙_, subst}
+use mathlib.Core.Path.{_≡_, sym, ap, ap₂, _∙_, subst}
 use mathlib.Core.Bool.{Bool, true, false, cond}
-use Prim.Native.Nat.{ℕ, _+_, _≤_}
+use Prim.Native.Nat.{ℕ, _+_, _-_, _≤_}
 use native.Mathlib.Nat.{add-zero, le-dest}
 use native.Mathlib.Numerals.{add-one}
 use native.Mathlib.Omega.{arith}
@@ -20,7 +20,7 @@ use Rattle.circuit.specs.Round.{All}
 use Rattle.filter.specs.Calls.{verdict, gone, halted, advanced, cycled, after, step, runFrom}
 use Rattle.filter.proofs.AfterLaws.{marks}
 use Rattle.filter.proofs.CallLaws.{step-leads}
-use Rattle.filter.proofs.RemovalLaws.{run-removed}
+use Rattle.filter.proofs.RemovalLaws.{from-removed}
 use Rattle.filter.proofs.RunLaws.{both, run-open, run-add, run-same}
 
 -- ---- the state after a step
@@ -54,38 +54,49 @@ step-is w v u r e p q =
 
 -- ---- the loop: what the first `steps` steps of the run have come to
 
-pub record Run (start : Work) (w : Work) (steps removed : ℕ) : Type 0 where
-  pub is : runFrom steps start ≡ record { answer = Taken; work = w; steps = steps; removed = removed }
+pub record Run (start : Work) (w : Work) (steps : ℕ) : Type 0 where
+  pub is : runFrom steps start ≡ record { answer = Taken; work = w; steps = steps; removed = legs (start .n) (rowsOf start) - legs (start .n) (rowsOf w) }
   pub good : Good w
 
-pub run-start : (w : Work) → Good w → Run w w 0 0
+pub run-start : (w : Work) → Good w → Run w w 0
 unfolding runFrom
-run-start w g = record { is = refl; good = g }
+run-start w g =
+    let none : 0 ≡ legs (w .n) (rowsOf w) - legs (w .n) (rowsOf w) = omega arith in
+    record { is = ap (λ (k : ℕ). record { answer = Taken; work = w; steps = 0; removed = k }) none; good = g }
 
-module _ {start w : Work} {steps removed : ℕ} (h : Run start w steps removed) where
-  -- a run removes no more legs than there are
-  pub run-fits : Good start → removed ≤ legs (start .n) (rowsOf start)
-  run-fits g =
-      let e = ap (λ (r : Ran). r .removed) (h .is) in
-      omega (arith, e, run-removed steps start g)
+module _ {start w : Work} {steps : ℕ} (h : Run start w steps) (g : Good start) where
+  -- no more legs than at the start
+  pub run-fewer : legs (start .n) (rowsOf w) ≤ legs (start .n) (rowsOf start)
+  run-fewer =
+      let e = ap (λ (r : Ran). legs (start .n) (rowsOf (r .work))) (h .is) in
+      omega (arith, e, from-removed steps start g)
 
-  pub run-turn : isOpen (w .end) ≡ true → (s : Called) → s ≡ step w → Run start (s .work) (steps + 1) (removed + s .removed)
+  pub run-turn : isOpen (w .end) ≡ true → (s : Called) → s ≡ step w → Run start (s .work) (steps + 1)
   unfolding runFrom
-  run-turn o s e =
-      record {
-        is =
-            run-add steps 1 start ∙ ap (λ (r : Ran). both r (runFrom 1 (r .work))) (h .is) ∙ ap (both (record { answer = Taken; work = w; steps = steps; removed = removed })) (run-open 0 w o)
-            ∙ ap (λ (k : ℕ). record { answer = Taken; work = step w .work; steps = steps + 1; removed = removed + k }) (add-zero (step w .removed))
-            ∙ ap (λ (q : Called). record { answer = Taken; work = q .work; steps = steps + 1; removed = removed + q .removed }) (sym e);
-        good = subst (λ (q : Called). Good (q .work)) (sym e) (step-leads All w (h .good) .keeps (h .good));
-      }
+  run-turn o s e = record { is = more ∙ ap (λ (k : ℕ). record { answer = Taken; work = s .work; steps = steps + 1; removed = k }) count; good = subst (λ (q : Called). Good (q .work)) (sym e) (step-leads All w (h .good) .keeps (h .good)) }
+    where
+      gone : ℕ
+      gone = legs (start .n) (rowsOf start) - legs (start .n) (rowsOf w)
+
+      more : runFrom (steps + 1) start ≡ record { answer = Taken; work = s .work; steps = steps + 1; removed = gone + s .removed }
+      more =
+          run-add steps 1 start ∙ ap (λ (r : Ran). both r (runFrom 1 (r .work))) (h .is) ∙ ap (both (record { answer = Taken; work = w; steps = steps; removed = gone })) (run-open 0 w o)
+          ∙ ap (λ (k : ℕ). record { answer = Taken; work = step w .work; steps = steps + 1; removed = gone + k }) (add-zero (step w .removed))
+          ∙ ap (λ (q : Called). record { answer = Taken; work = q .work; steps = steps + 1; removed = gone + q .removed }) (sym e)
+
+      count : gone + s .removed ≡ legs (start .n) (rowsOf start) - legs (start .n) (rowsOf (s .work))
+      count =
+          let r = ap (λ (r : Ran). r .removed + legs (start .n) (rowsOf (r .work))) more in
+          omega (arith, r, from-removed (steps + 1) start g)
 
   -- the budget is spent
-  pub run-spent : (budget : ℕ) → steps ≡ budget → record { answer = Taken; work = w; steps = steps; removed = removed } ≡ runFrom budget start
+  pub run-spent : (budget : ℕ) → steps ≡ budget
+      → record { answer = Taken; work = w; steps = steps; removed = legs (start .n) (rowsOf start) - legs (start .n) (rowsOf w) } ≡ runFrom budget start
   run-spent budget e = sym (h .is) ∙ ap (λ (b : ℕ). runFrom b start) e
 
   -- the end is not open
-  pub run-ended : (budget : ℕ) → steps ≤ budget → isOpen (w .end) ≡ false → record { answer = Taken; work = w; steps = steps; removed = removed } ≡ runFrom budget start
+  pub run-ended : (budget : ℕ) → steps ≤ budget → isOpen (w .end) ≡ false
+      → record { answer = Taken; work = w; steps = steps; removed = legs (start .n) (rowsOf start) - legs (start .n) (rowsOf w) } ≡ runFrom budget start
   run-ended budget l o =
       let d = le-dest l in
       sym (ap (λ (b : ℕ). runFrom b start) (sym (d .1)) ∙ run-same steps (d .0) start (ap (λ (r : Ran). isOpen (r .work .end)) (h .is) ∙ o) ∙ h .is)

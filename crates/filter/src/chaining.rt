@@ -166,7 +166,7 @@ pub(crate) fn chain_rows(rows: &mut [u64; 64], n: usize) -> Taken
     if (next.once == 0) & (sole == 0) {
         return Taken {
             none: false,
-            stale: false,
+            struck: false,
         };
     }
     let mut legs = [0u64; 64];
@@ -174,7 +174,7 @@ pub(crate) fn chain_rows(rows: &mut [u64; 64], n: usize) -> Taken
     if compulsory.forked {
         return Taken {
             none: true,
-            stale: false,
+            struck: false,
         };
     }
     let ends = compulsory.enter & !compulsory.leave;
@@ -183,12 +183,12 @@ pub(crate) fn chain_rows(rows: &mut [u64; 64], n: usize) -> Taken
     if short_loop(&legs, n, compulsory.enter & !met) {
         return Taken {
             none: true,
-            stale: false,
+            struck: false,
         };
     }
     let struck = strike_closing(rows, ends, &closing);
     Taken {
         none: false,
-        stale: struck,
+        struck,
     }
 }

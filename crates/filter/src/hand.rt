@@ -1,20 +1,20 @@
 // The calls by hand.
+use crate::counting::removals;
+use crate::cycle::Cursor;
 use crate::rule::Rule;
 use crate::rule::take;
 use circuit::Answer;
 use circuit::End;
 use circuit::Table;
-use circuit::Verdict;
 use circuit::Work;
 ghost use denote.Ref.{now};
 ghost use mathlib.Core.Path.{_≡_};
-ghost use mathlib.Core.Bool.{true, false};
-ghost use Prim.Native.Nat.{ℕ, _-_, _<_, _≤_};
-ghost use Rattle.bitset.specs.Upto.{row};
-ghost use Rattle.circuit.specs.Legs.{legs, Subtable};
-ghost use Rattle.circuit.specs.State.{isNone, stray, Good};
-ghost use Rattle.filter.specs.Calls.{unchanged, byHand, handCall, sweepCall, chainCall, passCall};
-ghost use Rattle.filter.specs.inner.Steps.{Narrows};
+ghost use mathlib.Core.Bool.{false};
+ghost use lib.ListN.{length};
+ghost use Rattle.circuit.specs.State.{isNone, Good};
+ghost use Rattle.filter.specs.Rule.{straySeed};
+ghost use Rattle.filter.specs.Calls.{verdict, byHand, handCall, sweepCall, chainCall, passCall};
+ghost use Rattle.filter.specs.inner.Steps.{HandMoved, stateAt, calledAs};
 
 // What a rule called by hand hands back.
 pub struct Called {
@@ -23,101 +23,101 @@ pub struct Called {
     pub removed: u32,
 }
 
-// Are the first n rows the same?
-fn same_rows(a: &[u64; 64], b: &[u64; 64], n: usize) -> bool
-    requires { ⌜ n ≤ 64 ⌝ }
-    ensures { λ r. ⌜ (r ≡ true → (k : ℕ) → k < n → row (now (a .entry)) k ≡ row (now (b .entry)) k) ⌝ }
-{
-    let mut same = true;
-    let mut k = 0usize;
-    while k < n {
-        same = same & (a[k] == b[k]);
-        k += 1;
-    }
-    same
+// What a rule called by hand on lent rows hands back beside them.
+pub struct CalledIn {
+    pub answer: Answer,
+    pub at: Cursor,
+    pub removed: u32,
 }
 
-// Legs before less legs after. Most steps strike nothing: then no leg is counted.
-pub(crate) fn removals(before: &[u64; 64], after: &[u64; 64], n: usize) -> u32
-    requires { ⌜ (n ≤ 64) × (stray n (now before) ≡ false) × (stray n (now after) ≡ false) × Subtable (now after) (now before) ⌝ }
-    ensures { λ r. ⌜ r ≡ legs n (now (before .entry)) - legs n (now (after .entry)) ⌝ }
+// Place, mark and end as they were, and no removals.
+fn unmoved(answer: Answer, at: Cursor) -> CalledIn
+    ensures { λ r. ⌜ r ≡ record { answer = answer; at = at; removed = 0 } ⌝ }
 {
-    if same_rows(before, after, n) {
-        return 0;
-    }
-    circuit::legs(before) - circuit::legs(after)
-}
-
-// The given state, and no removals.
-fn unchanged(answer: Answer, work: Work) -> Called
-    ensures { λ r. ⌜ r ≡ unchanged answer work ⌝ }
-{
-    Called {
+    CalledIn {
         answer,
-        work,
+        at,
         removed: 0,
     }
 }
 
-// A rule called by hand, with its verdict.
-fn by_hand(w: Work, v: Verdict) -> Called
-    requires { ⌜ Good w × Narrows w v × (isNone (w .end) ≡ false) ⌝ }
-    ensures { λ r. ⌜ r ≡ byHand w v ⌝ }
+// Where a rule called by hand takes a state.
+fn moved_by(at: Cursor, none: bool, removed: u32) -> Cursor
+    ensures { λ r. ⌜ HandMoved at none removed r ⌝ }
 {
-    let given = w.table;
-    let before = given.rows;
-    let rows = v.left;
-    let removed = removals(&before, &rows, w.n);
-    let table = Table { rows };
-    if v.none {
-        let work = w.moved(table, w.place, w.mark, End::None);
-        return Called {
-            answer: Answer::Taken,
-            work,
-            removed,
+    if none {
+        return Cursor {
+            place: at.place,
+            mark: at.mark,
+            end: End::None,
         };
     }
     if 0 < removed {
-        let work = w.moved(table, 0, false, End::Open);
-        return Called {
-            answer: Answer::Taken,
-            work,
-            removed,
+        return Cursor {
+            place: 0,
+            mark: false,
+            end: End::Open,
         };
     }
-    Called {
+    at
+}
+
+// A rule called by hand on a good state whose end is not none.
+fn by_hand(rows: &mut [u64; 64], n: usize, limit: usize, at: Cursor, rule: Rule) -> CalledIn
+    requires { ⌜ Good (stateAt n (now rows) limit at) × (length (now rows) ≡ 64) × (straySeed n rule ≡ false) × (isNone (at .end) ≡ false) ⌝ }
+    ensures { λ r. ⌜ calledAs n limit (now (rows .exit)) r ≡ byHand (stateAt n (now (rows .entry)) limit at) (verdict (stateAt n (now (rows .entry)) limit at) rule) ⌝ }
+{
+    let before = *rows;
+    let taken = take(rule, rows, n, limit);
+    let removed = removals(taken.struck, &before, rows, n);
+    CalledIn {
         answer: Answer::Taken,
-        work: w,
+        at: moved_by(at, taken.none, removed),
         removed,
     }
 }
 
-// A rule called by hand: the checks, and then its verdict on the state's table.
+// A rule called by hand on lent rows: the checks, and then its verdict on them.
+pub fn call_in(rows: &mut [u64; 64], n: usize, limit: usize, at: Cursor, rule: Rule) -> CalledIn
+    requires { ⌜ length (now rows) ≡ 64 ⌝ }
+    ensures { λ r. ⌜ (calledAs n limit (now (rows .exit)) r ≡ handCall (stateAt n (now (rows .entry)) limit at) rule)
+        × (r .removed ≡ 0 → now (rows .exit) ≡ now (rows .entry)) ⌝ }
+{
+    if circuit::is_bad_state(rows, n, limit, at.place) {
+        return unmoved(Answer::BadWork, at);
+    }
+    if rule.has_stray_seed(n) {
+        return unmoved(Answer::StraySeed, at);
+    }
+    let end = at.end;
+    if end.is_none() {
+        return unmoved(Answer::Taken, at);
+    }
+    by_hand(rows, n, limit, at, rule)
+}
+
+// A rule called by hand.
 pub fn call(work: Work, rule: Rule) -> Called
     ensures { λ r. ⌜ r ≡ handCall work rule ⌝ }
 {
-    if work.is_bad() {
-        return unchanged(Answer::BadWork, work);
-    }
-    let n = work.n;
-    if rule.has_stray_seed(n) {
-        return unchanged(Answer::StraySeed, work);
-    }
+    let given = work.table;
+    let mut rows = given.rows;
     let end = work.end;
-    if end.is_none() {
-        return unchanged(Answer::Taken, work);
+    let from = Cursor {
+        place: work.place,
+        mark: work.mark,
+        end,
+    };
+    let called = call_in(&mut rows, work.n, work.limit, from, rule);
+    let table = Table { rows };
+    let at = called.at;
+    let answer = called.answer;
+    let end = at.end;
+    Called {
+        answer,
+        work: work.moved(table, at.place, at.mark, end),
+        removed: called.removed,
     }
-    let table = work.table;
-    let mut rows = table.rows;
-    let mut cols = circuit::columns(&rows, n);
-    let taken = take(rule, &mut rows, &mut cols, n, work.limit);
-    by_hand(
-        work,
-        Verdict {
-            none: taken.none,
-            left: rows,
-        },
-    )
 }
 
 // The sweep by hand.

@@ -7,9 +7,11 @@ ghost use mathlib.Core.Bool.{false};
 ghost use mathlib.Core.Path.{_≡_};
 ghost use Prim.Native.Nat.{_≤_};
 ghost use lib.ListN.{length};
-ghost use Rattle.circuit.specs.inner.Tables.{Columned, TableTaken};
+ghost use Rattle.circuit.specs.Legs.{columns};
+ghost use Rattle.circuit.specs.State.{stray};
+ghost use Rattle.circuit.specs.inner.Tables.{Square, Columned};
 ghost use Rattle.filter.specs.Rule.{says, straySeed, ruleAt};
-ghost use Rattle.filter.specs.inner.Steps.{RowsTaken};
+ghost use Rattle.filter.specs.inner.Steps.{RowsLeft, TableLeft};
 
 pub enum Rule {
     Sweep,
@@ -43,14 +45,24 @@ impl Rule {
     }
 }
 
-// What was taken of a rule: whether the verdict is none, and whether the columns are no longer those of the rows.
+// What was taken of a rule: whether the verdict is none, and whether a leg may have gone.
 pub(crate) struct Taken {
     pub(crate) none: bool,
-    pub(crate) stale: bool,
+    pub(crate) struck: bool,
 }
 
-// Strikes what the rule strikes. A pass keeps the columns in step with the rows; a sweep and a chain step leave them as they were.
-pub(crate) fn take(
+// Gathers the columns again, where a leg went since.
+fn renew(cols: &mut [u64; 64], rows: &[u64; 64], n: usize, struck: bool)
+    requires { ⌜ (n ≤ 64) × Square n (now rows) × (struck ≡ false → now cols ≡ columns n (now rows)) ⌝ }
+    ensures { λ _. ⌜ now (cols .exit) ≡ columns n (now (rows .entry)) ⌝ }
+{
+    if struck {
+        *cols = circuit::columns(rows, n);
+    }
+}
+
+// Strikes what the rule strikes, and keeps the columns in step with the rows.
+pub(crate) fn take_on(
     rule: Rule,
     rows: &mut [u64; 64],
     cols: &mut [u64; 64],
@@ -58,44 +70,34 @@ pub(crate) fn take(
     limit: usize,
 ) -> Taken
     requires { ⌜ (2 ≤ n) × (n ≤ 64) × (straySeed n rule ≡ false) × Columned n (now rows) (now cols) ⌝ }
-    ensures { λ r. ⌜ RowsTaken n (says rule n (now (rows .entry)) limit) r (now (rows .exit)) (now (cols .exit)) ⌝ }
+    ensures { λ r. ⌜ TableLeft n (says rule n (now (rows .entry)) limit) r (now (rows .entry)) (now (rows .exit)) (now (cols .exit)) ⌝ }
+{
+    match rule {
+        Rule::Sweep => {
+            let taken = sweep_rows(rows, n);
+            renew(cols, rows, n, taken.struck);
+            taken
+        }
+        Rule::Chain => {
+            let taken = chain_rows(rows, n);
+            renew(cols, rows, n, taken.struck);
+            taken
+        }
+        Rule::Pass(seed) => pass_on(rows, cols, n, limit, seed - 1),
+    }
+}
+
+// The same on rows whose columns nobody has: only a pass needs them.
+pub(crate) fn take(rule: Rule, rows: &mut [u64; 64], n: usize, limit: usize) -> Taken
+    requires { ⌜ (2 ≤ n) × (n ≤ 64) × (straySeed n rule ≡ false) × (length (now rows) ≡ 64) × (stray n (now rows) ≡ false) ⌝ }
+    ensures { λ r. ⌜ RowsLeft n (says rule n (now (rows .entry)) limit) r (now (rows .entry)) (now (rows .exit)) ⌝ }
 {
     match rule {
         Rule::Sweep => sweep_rows(rows, n),
         Rule::Chain => chain_rows(rows, n),
         Rule::Pass(seed) => {
-            let none = pass_on(rows, cols, n, limit, seed - 1);
-            Taken { none, stale: false }
+            let mut cols = circuit::columns(rows, n);
+            pass_on(rows, &mut cols, n, limit, seed - 1)
         }
     }
-}
-
-fn copy_words(from: &[u64; 64], to: &mut [u64; 64])
-    requires { ⌜ (length (now from) ≡ 64) × (length (now to) ≡ 64) ⌝ }
-    ensures { λ _. ⌜ now (to .exit) ≡ now (from .entry) ⌝ }
-{
-    let mut i = 0usize;
-    while i < 64 {
-        to[i] = from[i];
-        i += 1;
-    }
-}
-
-// Takes the rule, and gathers the columns of what is left where they are stale. Answers whether the verdict is none.
-pub(crate) fn take_on(
-    rule: Rule,
-    rows: &mut [u64; 64],
-    cols: &mut [u64; 64],
-    n: usize,
-    limit: usize,
-) -> bool
-    requires { ⌜ (2 ≤ n) × (n ≤ 64) × (straySeed n rule ≡ false) × Columned n (now rows) (now cols) ⌝ }
-    ensures { λ r. ⌜ TableTaken n (says rule n (now (rows .entry)) limit) r (now (rows .exit)) (now (cols .exit)) ⌝ }
-{
-    let taken = take(rule, rows, cols, n, limit);
-    if taken.stale {
-        let fresh = circuit::columns(rows, n);
-        copy_words(&fresh, cols);
-    }
-    taken.none
 }

@@ -66,19 +66,19 @@ pub(crate) fn sweep_rows(rows: &mut [u64; 64], n: usize) -> Taken
     if next.empty | (next.reached != bitset::full(n)) {
         return Taken {
             none: true,
-            stale: false,
+            struck: false,
         };
     }
     let sole = next.sole();
     if (next.once == 0) & (sole == 0) {
         return Taken {
             none: false,
-            stale: false,
+            struck: false,
         };
     }
     let struck = sweep_words(rows, n, next, sole);
     Taken {
         none: false,
-        stale: struck,
+        struck,
     }
 }

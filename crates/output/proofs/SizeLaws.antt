@@ -28,7 +28,8 @@ use Rattle.filter.specs.Ends.{fullBudget}
 use Rattle.filter.proofs.CallLaws.{runCall-leads}
 use Rattle.report.specs.Lines.{text}
 use Rattle.report.proofs.SizeLaws.{text-bound}
-use Rattle.demands.proofs.CountLaws.{run-removed, steps-most}
+use Rattle.filter.proofs.RemovalLaws.{run-removed}
+use Rattle.demands.proofs.CountLaws.{steps-most}
 use Rattle.output.specs.Program.{openedLine, stepsLine, ranLine, stationLines, takenText, refusedLine, openedText, programText}
 use Rattle.output.specs.Sizes.{programMost}
 use Rattle.output.proofs.PrintLaws.{taken-good}

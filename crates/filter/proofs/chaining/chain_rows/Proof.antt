@@ -54,7 +54,7 @@ met-fits c = let f : Fits w64 (c .find-chains .result) = search needs in f .fits
 
 -- where no leg goes, the rows are as they were
 untouched : (s : tie.Start) (none : Bool) → chain (s .args .n) (s .args .rows .now) ≡ record { none = none; left = s .args .rows .now }
-    → RowsLeft (s .args .n) (chain (s .args .n) (s .args .rows .now)) (record { none = none; stale = false }) (s .args .rows .now) (s .args .rows .now)
+    → RowsLeft (s .args .n) (chain (s .args .n) (s .args .rows .now)) (record { none = none; struck = false }) (s .args .rows .now) (s .args .rows .now)
 untouched s none e = record { verdict = e; clean = s .pre .3; len = s .pre .2; same = λ _. refl }
 
 single-words-requires : tie.Need-single-words-requires

@@ -1,45 +1,73 @@
--- `filter::by_hand` meets its contract: a return for each of the hand rules.
+-- `filter::by_hand` meets its contract.
 use borrow.Author.Needs.{needs}
-use borrow.Author.Tests.{lt-ltb, le-ltb}
-use native.Mathlib.Omega.{arith}
-use Rattle.filter.specs.Calls.{gone}
-use Rattle.filter.proofs.HandLaws.{hand-none, hand-gone, hand-same}
+use mathlib.Core.Path.{_≡_, refl, sym, ap, ap₂, _∙_, subst}
+use Prim.Native.Nat.{ℕ}
+use Rattle.circuit.specs.declared.state.Work.{Work}
+use Rattle.circuit.specs.declared.card.Answer.the-variants.{Taken}
+use Rattle.circuit.specs.declared.verdict.Verdict.{Verdict}
+use Rattle.circuit.specs.State.{rowsOf}
+use Rattle.circuit.specs.Round.{All}
+use Rattle.circuit.specs.Verdict.{Sound}
+use Rattle.filter.specs.Calls.{verdict, gone, byHand}
+use Rattle.filter.specs.inner.Steps.{stateAt}
+use Rattle.filter.proofs.RuleLaws.{says-sound}
+use Rattle.filter.proofs.HandLaws.{hand-is}
+use Rattle.filter.proofs.RemovalLaws.{left-same}
 use Rattle.filter.proofs.hand.by_hand.Statement.{statement}
 use Rattle.filter.proofs.hand.by_hand.Tie as tie
 
+-- ---- places in the code
+
+abbrev start : tie.After-take → tie.Start
+start c = c .before .before .before
+
+abbrev taken : tie.After-removals → tie.After-take
+taken c = c .before .before .before
+
+-- the state that is given
+abbrev given : tie.Start → Work
+given s = stateAt (s .args .n) (s .args .rows .now) (s .args .limit) (s .args .at)
+
+-- the verdict, as it was taken
+abbrev told : tie.After-take → Verdict
+told c = record { none = c .take .result .none; left = c .take .last .1 .0 }
+
+says : (c : tie.After-take) → verdict (given (start c)) (start c .args .rule) ≡ told c
+says c = c .take .ensures .verdict
+
+sound : (c : tie.After-take) → let w = given (start c) in Sound All (w .n) (rowsOf w) (told c)
+sound c =
+    let s = start c in
+    let w = given s in
+    subst (Sound All (w .n) (rowsOf w)) (says c) (says-sound (s .args .rule) (w .n) (rowsOf w) (w .limit) (s .pre .0 .most) (s .pre .2))
+
+take-requires : tie.Need-take-requires
+take-requires c κs =
+    let s = c .before .before in
+    let g = s .pre .0 in
+    (g .two, g .most, s .pre .2, s .pre .1, g .table)
+
 removals-requires : tie.Need-removals-requires
 removals-requires c κs =
-    let s = c .before .before .before .before .before in
-    (s .pre .0 .most, s .pre .0 .table, s .pre .1 .clean, s .pre .1 .sub)
+    let t = c .before .before in
+    let g = start t .pre .0 in
+    let L = t .take .ensures in
+    (g .most, g .table, L .clean, sound t .sub, L .same)
 
-moved-requires : tie.Need-moved-requires
-moved-requires c κs = search needs
+moved-by-requires : tie.Need-moved-by-requires
+moved-by-requires c κs = search needs
 
 returns : tie.Need-returns
 unfolding gone
 returns c =
-    let r = c .before .before in
-    let s = r .before .before .before .before .before .before in
-    hand-none (s .args .w) (s .args .v) (s .pre .2) (c .moved .result) (r .removals .result) (c .before .if1 .taken) (c .moved .ensures) (r .removals .ensures)
-
-moved-requires-2 : tie.Need-moved-requires-2
-moved-requires-2 c κs = search needs
-
-returns-2 : tie.Need-returns-2
-unfolding gone
-returns-2 c =
-    let r = c .before .before .before in
-    let s = r .before .before .before .before .before .before in
-    hand-gone (s .args .w) (s .args .v) (s .pre .2) (c .moved2 .result) (r .removals .result) (c .before .before .if1 .left) (lt-ltb 0 (r .removals .result) (omega arith)) (c .moved2 .ensures) (r .removals .ensures)
-
-returns-3 : tie.Need-returns-3
-unfolding gone
-returns-3 c =
-    let r = c .before .before in
-    let s = r .before .before .before .before .before .before in
-    hand-same (s .args .w) (s .args .v) (s .pre .2) (r .removals .result) (c .before .if1 .left) (le-ltb 0 (r .removals .result) (omega arith)) (r .removals .ensures)
+    let r = c .before .removals in
+    let t = taken (c .before) in
+    let s = start t in
+    let w = given s in
+    let count : r .result ≡ gone w (told t) = r .ensures in
+    ap₂ (λ (u : Work) (k : ℕ). record { answer = Taken; work = u; removed = k })
+    (c .moved-by .ensures w (told t) refl refl refl (s .pre .3) refl count (λ z. left-same w (told t) (s .pre .0) (sound t) (s .pre .1) (sym count ∙ z))) count
+    ∙ hand-is w (told t) (s .pre .3) ∙ ap (byHand w) (sym (says t))
 
 pub by-hand-spec : {M : Type 1} → statement M
-by-hand-spec =
-    tie.close
-    (tie.spec removals-requires moved-requires returns moved-requires-2 returns-2 returns-3)
+by-hand-spec = tie.close (tie.spec take-requires removals-requires moved-by-requires returns)

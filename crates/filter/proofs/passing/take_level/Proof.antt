@@ -13,7 +13,7 @@ cast-if1 c = let few : ones (c .args .s) ≤ 64 = ones-le 64 (c .args .s) (c .fi
 returns : tie.Need-returns
 returns c =
     let s = c .before in
-    (level-skipped (s .args .n) (s .args .limit) (s .args .s) _ _ (s .pre .0) (s .pre .1) (omega arith), s .pre .2)
+    (level-skipped (s .args .n) (s .args .limit) (s .args .s) _ (s .pre .0) _ (s .pre .1) (omega arith), s .pre .2)
 
 strike-requires : tie.Need-strike-requires
 strike-requires c κs =
@@ -23,7 +23,7 @@ returns-2 : tie.Need-returns-2
 returns-2 c =
     let s = c .before .before .before .before .before in
     let e = c .strike .ensures in
-    (level-taken (s .args .n) (s .args .limit) (s .args .s) _ _ (s .pre .0) (s .pre .1) (omega arith) (e .0), e .1)
+    (level-taken (s .args .n) (s .args .limit) (s .args .s) _ (s .pre .0) (omega arith) (e .0) (e .2), e .1)
 
 pub take-level-spec : {M : Type 1} → statement M
 take-level-spec = tie.close (tie.spec cast-if1 returns strike-requires returns-2)
