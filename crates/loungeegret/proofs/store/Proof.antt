@@ -8,6 +8,10 @@ use Rattle.loungeegret.proofs.WordsLaws.{stores}
 use Rattle.loungeegret.proofs.store.Statement.{statement}
 use Rattle.loungeegret.proofs.store.Tie as tie
 
+-- the table has its 64 rows
+long : (s : tie.Start) → length (rowsOf (s .args .work)) ≡ 64
+long s = let known = s .good in search needs
+
 slice-write-state : tie.Need-slice-write-state
 slice-write-state c = search needs
 
@@ -23,8 +27,7 @@ store-rows-requires c κs =
     let k = b .before in
     let s = k .before .before .before in
     let same : length (k .store-cursor .last .0) ≡ length (s .args .state .now) = b .state .given ∙ simp length-set in
-    let long : length (rowsOf (s .args .work)) ≡ 64 = (let known = s .good in search needs) in
-    (omega (arith, same, s .pre), long)
+    (omega (arith, same, s .pre), long s)
 
 same-length : tie.Need-same-length
 same-length c = c .before .state2 .given ∙ c .before .before .before .before .before .before .before .before .state .given ∙ simp length-set
