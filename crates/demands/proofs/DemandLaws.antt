@@ -21,6 +21,7 @@ use Rattle.filter.proofs.RunLaws.{budgets, run-bad}
 use Rattle.demands.specs.Sequence.{Call, calling, running, checking, reporting, writing, handed, afterAll}
 use Rattle.demands.specs.Demands.{Demand1, Demand2, Kept, Demand3, SentBack}
 use Rattle.demands.proofs.RefusalLaws.{opening-refused, hand-refused, run-refused, list-refused, report-refused, write-refused}
+use Rattle.filter.proofs.RemovalLaws.{hand-removed, run-removed}
 use Rattle.demands.proofs.CountLaws.{steps-most, open-spent}
 
 -- ---- a list of calls

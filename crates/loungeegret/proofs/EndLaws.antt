@@ -3,13 +3,12 @@ use mathlib.Core.Path.{_≡_, refl, sym, ap, _∙_, subst}
 use mathlib.Core.Logic.{⊎-elim}
 use mathlib.Core.Bool.{false}
 use mathlib.Core.List.{List}
-use Prim.Native.Nat.{ℕ, _≤_, _<_}
+use Prim.Native.Nat.{ℕ, _≤_}
 use native.Mathlib.Omega.{arith}
 use lib.ListN.{length}
 use borrow.Author.Tests.{lt-ltb}
 use Rattle.bitset.proofs.BoolLaws.{is-false, cond-true}
 use Rattle.bitset.proofs.QuantLaws.{below?}
-use Rattle.circuit.specs.declared.state.Work.{Work}
 use Rattle.circuit.specs.Card.{number}
 use Rattle.circuit.specs.State.{bad}
 use Rattle.circuit.proofs.StateLaws.{good}

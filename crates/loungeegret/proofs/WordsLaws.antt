@@ -1,7 +1,7 @@
 -- The two codings of a work state are inverse where the words are in range. Assumes nothing.
-use mathlib.Core.Path.{_≡_, refl, sym, ap, _∙_, subst}
+use mathlib.Core.Path.{_≡_, refl, sym, ap, ap₂, _∙_, subst}
 use mathlib.Core.Bool.{Bool, true, false}
-use mathlib.Core.List.{List, _∷_, _++_, append-assoc}
+use mathlib.Core.List.{List, [], _∷_, _++_, append-assoc}
 use Prim.Native.Nat.{ℕ, zero, suc, _+_, _≤_, _<_}
 use native.Mathlib.Nat.{zero-add}
 use native.Mathlib.Numerals.{add-one}
@@ -9,18 +9,21 @@ use native.Mathlib.Omega.{arith}
 use borrow.Author.Tests.{ltb-false}
 use lib.Dec.{eqb, ltb}
 use lib.ListN.{getD, length, take, drop, set, length-append, take-append-drop}
-use lib.Seq.{paste-suc, drop-cons, drop-at, take-at, getD-append-add, length-take-le, sets, sets-eq}
+use lib.Seq.{paste-suc, drop-cons, drop-at, take-at, drop-append-add, getD-append-add, length-take-le, sets, sets-eq}
 use mir.Val.{boolByte}
 use Rattle.bitset.specs.Sets.{digit}
-use Rattle.bitset.proofs.BoolLaws.{or-false-l, or-false-r, cond-elim}
+use Rattle.bitset.proofs.BoolLaws.{or-false-l, or-false-r, cond-elim, cond-false}
 use Rattle.circuit.specs.declared.card.Answer.{Answer}
 use Rattle.circuit.specs.declared.state.Work.{Work}
 use Rattle.circuit.specs.declared.card.End.{End}
 use Rattle.circuit.specs.declared.card.End.the-variants.{Open, Stable, None}
 use Rattle.circuit.specs.State.{rowsOf, state, blank, bad}
 use Rattle.circuit.specs.Card.{endCode, endOf}
+use Rattle.filter.specs.declared.cycle.Cursor.{Cursor}
+use Rattle.filter.specs.inner.Steps.{stateAt}
 use Rattle.loungeegret.specs.Words.{stateWords, outOfRange, loaded, fields, stored, storedIn}
 use Rattle.loungeegret.specs.Results.{refuses, wordsAfter}
+use Rattle.loungeegret.specs.inner.Parts.{cursorOf, cursorWords, movedIn}
 
 -- ---- the mark and the end
 
@@ -68,13 +71,15 @@ number-of-end (suc (suc (suc k))) h = absurd (omega (arith, ltb-false 2 (suc (su
 past : (k : ℕ) (rows s : List ℕ) → length rows ≡ 64 → getD (rows ++ s) (64 + k) 0 ≡ getD s k 0
 past k rows s e = subst (λ (m : ℕ). getD (rows ++ s) (m + k) 0 ≡ getD s k 0) e (getD-append-add rows s k 0)
 
--- the lent words are the rows, the five words that follow, and the rest
+-- the five words that follow the rows, and the rest
+fields-of : (s : List ℕ) → stateWords ≤ length s → drop 64 s ≡ getD s 64 0 ∷ getD s 65 0 ∷ getD s 66 0 ∷ getD s 67 0 ∷ getD s 68 0 ∷ drop stateWords s
+fields-of s h =
+    rw (drop-cons s 64 0 (omega arith), drop-cons s 65 0 (omega arith), drop-cons s 66 0 (omega arith), drop-cons s 67 0 (omega arith), drop-cons s 68 0 (omega arith))
+
+-- the lent words are the rows, these words and the rest
 split : (s : List ℕ) → stateWords ≤ length s
     → take 64 s ++ (getD s 64 0 ∷ getD s 65 0 ∷ getD s 66 0 ∷ getD s 67 0 ∷ getD s 68 0 ∷ drop stateWords s) ≡ s
-split s h =
-    let e : drop 64 s ≡ getD s 64 0 ∷ getD s 65 0 ∷ getD s 66 0 ∷ getD s 67 0 ∷ getD s 68 0 ∷ drop stateWords s =
-    rw (drop-cons s 64 0 (omega arith), drop-cons s 65 0 (omega arith), drop-cons s 66 0 (omega arith), drop-cons s 67 0 (omega arith), drop-cons s 68 0 (omega arith)) in
-    rw (sym e) (take-append-drop 64 s)
+split s h = rw (sym (fields-of s h)) (take-append-drop 64 s)
 
 module _ (w : Work) (whole : length (rowsOf w) ≡ 64) where
   pub length-stored : length (stored w) ≡ stateWords
@@ -147,3 +152,31 @@ stores s w h =
     rw e
     (rw (append-assoc (take 64 s) (fields w) (drop stateWords s), drop-at (take 64 s) (fields w ++ drop stateWords s) 64 (length-take-le 64 s (omega arith)))
     (sym (append-assoc (rowsOf w) (fields w) (drop stateWords s))))
+
+-- the rows are stored, and then place, mark and end; n and the limit stay
+pub stores-parts : (s rows : List ℕ) (at : Cursor) → stateWords ≤ length s → length rows ≡ 64 → sets (rows ++ drop 64 s) 66 (cursorWords at) ≡ storedIn s (movedIn s rows at)
+unfolding stored storedIn
+stores-parts s rows at h long =
+    let kept : List ℕ = getD s 64 0 ∷ getD s 65 0 ∷ [] in
+    let rest : List ℕ = getD s 66 0 ∷ getD s 67 0 ∷ getD s 68 0 ∷ drop stateWords s in
+    let front : List ℕ = rows ++ kept in
+    let size : length front ≡ 66 = length-append rows kept ∙ ap (λ (k : ℕ). k + 2) long in
+    let is : rows ++ drop 64 s ≡ front ++ rest = ap (λ (x : List ℕ). rows ++ x) (fields-of s h) ∙ sym (append-assoc rows kept rest) in
+    let room : 66 + 3 ≤ length (front ++ rest) = omega (arith, length-append front rest, size) in
+    let past : drop (66 + 3) (front ++ rest) ≡ drop stateWords s = subst (λ (k : ℕ). drop (k + 3) (front ++ rest) ≡ drop stateWords s) size (drop-append-add front rest 3) in
+    ap (λ (x : List ℕ). sets x 66 (cursorWords at)) is ∙ sets-eq (cursorWords at) (front ++ rest) 66 room
+    ∙ ap₂ (λ (x y : List ℕ). x ++ cursorWords at ++ y) (take-at front rest 66 size) past
+    ∙ ap (λ (x : List ℕ). x ++ drop stateWords s) (append-assoc rows kept (cursorWords at))
+
+-- in range, the words say their parts
+pub loaded-parts : (s : List ℕ) → outOfRange s ≡ false → movedIn s (take 64 s) (cursorOf s) ≡ loaded s
+unfolding loaded
+loaded-parts s range = sym (cond-false blank (movedIn s (take 64 s) (cursorOf s)) range)
+
+-- so a call of the parts is one of the state
+pub parts-as : {A : Type 0} (call : Work → A) (back : ℕ → ℕ → A) (s : List ℕ) (n limit : ℕ) (rows : List ℕ) (at : Cursor) → outOfRange s ≡ false
+    → n ≡ getD s 64 0 → limit ≡ getD s 65 0 → rows ≡ take 64 s → at ≡ cursorOf s → back n limit ≡ call (stateAt n rows limit at) → back (getD s 64 0) (getD s 65 0) ≡ call (loaded s)
+parts-as call back s n limit rows at range en el er ea e =
+    ap₂ back (sym en) (sym el) ∙ e
+    ∙ ap call
+    (ap₂ (λ (x y : ℕ). stateAt x rows y at) en el ∙ ap₂ (λ (x : List ℕ) (y : Cursor). stateAt (getD s 64 0) x (getD s 65 0) y) er ea ∙ loaded-parts s range)

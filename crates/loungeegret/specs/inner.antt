@@ -1,2 +1,3 @@
 -- What the functions promise each other.
 pub mod Content
+pub mod Parts

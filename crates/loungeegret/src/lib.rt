@@ -6,12 +6,14 @@ use circuit::End;
 use circuit::Filled;
 use circuit::Table;
 use circuit::Work;
+use filter::Cursor;
 use filter::Rule;
 ghost use denote.Ref.{now};
 ghost use mathlib.Core.Path.{_≡_};
 ghost use mathlib.Core.List.{_++_};
 ghost use Prim.Native.Nat.{_≤_};
 ghost use lib.ListN.{length, take, drop};
+ghost use lib.Seq.{sets};
 ghost use Rattle.circuit.specs.Card.{number};
 ghost use Rattle.circuit.specs.Check.{checkCall};
 ghost use Rattle.circuit.specs.Fill.{fillCall, fillBytes};
@@ -20,9 +22,10 @@ ghost use Rattle.sheet.specs.Write.{writeCall, writeBytes};
 ghost use Rattle.report.specs.Lines.{reportCall, reportBytes};
 ghost use Rattle.filter.specs.Calls.{handCall, sweepCall, chainCall, passCall, runCall};
 ghost use Rattle.output.specs.Program.{programText};
-ghost use Rattle.loungeegret.specs.Words.{stateWords, loaded, storedIn};
+ghost use Rattle.loungeegret.specs.Words.{stateWords, outOfRange, loaded, storedIn};
 ghost use Rattle.loungeegret.specs.Results.{wordsAfter, OpenResult, CallResult, RunResult, CheckResult, FillResult, PrintResult};
 ghost use Rattle.loungeegret.specs.inner.Content.{contentOf};
+ghost use Rattle.loungeegret.specs.inner.Parts.{cursorOf, cursorWords, movedIn};
 
 // Where the words stand that follow the rows of the table, and how many words a state has.
 const N: usize = 64;
@@ -47,9 +50,17 @@ fn size(x: u64) -> usize
     x as usize
 }
 
-fn load_table(state: &[u64]) -> Table
+// Is the mark or the end out of range? Then the words say the blank state, which is bad.
+fn out_of_range(state: &[u64]) -> bool
     requires { ⌜ stateWords ≤ length (now state) ⌝ }
-    ensures { λ r. ⌜ r .rows ≡ take 64 (now (state .entry)) ⌝ }
+    ensures { λ r. ⌜ r ≡ outOfRange (now (state .entry)) ⌝ }
+{
+    (1 < state[MARK]) | (2 < state[END_NUMBER])
+}
+
+fn load_rows(state: &[u64]) -> [u64; 64]
+    requires { ⌜ stateWords ≤ length (now state) ⌝ }
+    ensures { λ r. ⌜ r ≡ take 64 (now (state .entry)) ⌝ }
 {
     let mut rows = [0u64; 64];
     let mut i = 0usize;
@@ -57,38 +68,62 @@ fn load_table(state: &[u64]) -> Table
         rows[i] = state[i];
         i += 1;
     }
-    Table { rows }
+    rows
 }
 
-// The work state that the words say. A mark or an end out of range is a bad work state, as the blank one is.
+// Place, mark and end, in range.
+fn load_cursor(state: &[u64]) -> Cursor
+    requires { ⌜ stateWords ≤ length (now state) ⌝ }
+    ensures { λ r. ⌜ r ≡ cursorOf (now (state .entry)) ⌝ }
+{
+    Cursor {
+        place: size(state[PLACE]),
+        mark: state[MARK] == 1,
+        end: End::of_code(state[END_NUMBER]),
+    }
+}
+
+// The work state that the words say.
 fn load(state: &[u64]) -> Work
     requires { ⌜ stateWords ≤ length (now state) ⌝ }
     ensures { λ r. ⌜ r ≡ loaded (now (state .entry)) ⌝ }
 {
-    let mark = state[MARK];
-    let end = state[END_NUMBER];
-    if (1 < mark) | (2 < end) {
+    if out_of_range(state) {
         return Work::blank();
     }
+    let rows = load_rows(state);
+    let table = Table { rows };
+    let at = load_cursor(state);
+    let end = at.end;
     Work::new(
         size(state[N]),
-        load_table(state),
+        table,
         size(state[LIMIT]),
-        size(state[PLACE]),
-        mark == 1,
-        End::of_code(end),
+        at.place,
+        at.mark,
+        end,
     )
 }
 
-fn store_rows(state: &mut [u64], rows: [u64; 64])
-    requires { ⌜ stateWords ≤ length (now state) ⌝ }
-    ensures { λ _. ⌜ now (state .exit) ≡ rows ++ drop 64 (now (state .entry)) ⌝ }
+fn store_rows(state: &mut [u64], rows: &[u64; 64])
+    requires { ⌜ (stateWords ≤ length (now state)) × (length (now rows) ≡ 64) ⌝ }
+    ensures { λ _. ⌜ now (state .exit) ≡ now (rows .entry) ++ drop 64 (now (state .entry)) ⌝ }
 {
     let mut i = 0usize;
     while i < Table::MAX {
         state[i] = rows[i];
         i += 1;
     }
+}
+
+fn store_cursor(state: &mut [u64], at: Cursor)
+    requires { ⌜ stateWords ≤ length (now state) ⌝ }
+    ensures { λ _. ⌜ now (state .exit) ≡ sets (now (state .entry)) 66 (cursorWords at) ⌝ }
+{
+    state[PLACE] = at.place as u64;
+    state[MARK] = at.mark as u64;
+    let end = at.end;
+    state[END_NUMBER] = end.code();
 }
 
 // The work state goes to the start of the lent words.
@@ -98,23 +133,39 @@ fn store(state: &mut [u64], work: Work)
 {
     state[N] = work.n as u64;
     state[LIMIT] = work.limit as u64;
-    state[PLACE] = work.place as u64;
-    state[MARK] = work.mark as u64;
     let end = work.end;
-    state[END_NUMBER] = end.code();
+    store_cursor(
+        state,
+        Cursor {
+            place: work.place,
+            mark: work.mark,
+            end,
+        },
+    );
     let table = work.table;
     let rows = table.rows;
-    store_rows(state, rows);
+    store_rows(state, &rows);
 }
 
-// The number of a call; the state of a taken one goes to the lent words.
-fn hand_back(state: &mut [u64], answer: Answer, work: Work) -> u32
-    requires { ⌜ stateWords ≤ length (now state) ⌝ }
-    ensures { λ r. ⌜ (r ≡ number answer) × (now (state .exit) ≡ wordsAfter (now (state .entry)) answer work) ⌝ }
+// The rows go to the start of the lent words, where they are other ones.
+fn store_changed(state: &mut [u64], rows: &[u64; 64], removed: u32)
+    requires { ⌜ (stateWords ≤ length (now state)) × (length (now rows) ≡ 64) × (removed ≡ 0 → now rows ≡ take 64 (now state)) ⌝ }
+    ensures { λ _. ⌜ now (state .exit) ≡ now (rows .entry) ++ drop 64 (now (state .entry)) ⌝ }
+{
+    if removed != 0 {
+        store_rows(state, rows);
+    }
+}
+
+// The number of a call. What a taken one changes of the state goes to the lent words: n and the limit stay.
+fn hand_back(state: &mut [u64], rows: &[u64; 64], answer: Answer, at: Cursor, removed: u32) -> u32
+    requires { ⌜ (stateWords ≤ length (now state)) × (length (now rows) ≡ 64) × (removed ≡ 0 → now rows ≡ take 64 (now state)) ⌝ }
+    ensures { λ r. ⌜ (r ≡ number answer) × (now (state .exit) ≡ wordsAfter (now (state .entry)) answer (movedIn (now (state .entry)) (now (rows .entry)) at)) ⌝ }
 {
     let number = answer.number();
     if number == 0 {
-        store(state, work);
+        store_changed(state, rows, removed);
+        store_cursor(state, at);
     }
     number
 }
@@ -147,11 +198,23 @@ fn call(state: &mut [u64], rule: Rule, removed: &mut u32) -> u32
     if state.len() < STATE_WORDS {
         return NO_STATE;
     }
-    let called = filter::call(load(state), rule);
+    if out_of_range(state) {
+        *removed = 0;
+        let refused = Answer::BadWork;
+        return refused.number();
+    }
+    let mut rows = load_rows(state);
+    let called = filter::call_in(
+        &mut rows,
+        size(state[N]),
+        size(state[LIMIT]),
+        load_cursor(state),
+        rule,
+    );
     *removed = called.removed;
     let answer = called.answer;
-    let work = called.work;
-    hand_back(state, answer, work)
+    let at = called.at;
+    hand_back(state, &rows, answer, at, called.removed)
 }
 
 #[no_mangle]
@@ -188,12 +251,25 @@ pub extern "C" fn loungeegret_run(
     if state.len() < STATE_WORDS {
         return NO_STATE;
     }
-    let ran = filter::run(load(state), budget);
+    if out_of_range(state) {
+        *steps = 0;
+        *removed = 0;
+        let refused = Answer::BadWork;
+        return refused.number();
+    }
+    let mut rows = load_rows(state);
+    let ran = filter::run_in(
+        &mut rows,
+        size(state[N]),
+        size(state[LIMIT]),
+        load_cursor(state),
+        budget,
+    );
     *steps = ran.steps;
     *removed = ran.removed;
     let answer = ran.answer;
-    let work = ran.work;
-    hand_back(state, answer, work)
+    let at = ran.at;
+    hand_back(state, &rows, answer, at, ran.removed)
 }
 
 // Writes 1 through `yes` where the list is a round whose legs all stand, and else 0.

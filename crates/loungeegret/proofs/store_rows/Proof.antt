@@ -21,8 +21,8 @@ loop-holds c = (omega arith, refl, refl)
 mul-state : tie.Need-mul-state Inv-loop μ-loop
 mul-state c = search needs
 
-array-read-state : tie.Need-array-read-state Inv-loop μ-loop
-array-read-state c = search needs
+element-copy-out-state : tie.Need-element-copy-out-state Inv-loop μ-loop
+element-copy-out-state c = search needs
 
 mul-state-2 : tie.Need-mul-state-2 Inv-loop μ-loop
 mul-state-2 c = search needs
@@ -38,20 +38,21 @@ loop-less c = search needs
 
 loop-again : tie.Need-loop-again Inv-loop μ-loop
 loop-again c =
-    let l = c .before .loop in
-    let a = c .before .before .args in
-    let most : length (a .t2) ≡ 64 = search needs in
-    (omega arith, rw (l .inv .1) (copy-turn (a .state .now) (a .t2) (l .i) (omega arith) (omega arith)), length-set (l .state) (l .i) _ ∙ l .inv .2)
+    let l = c .before .before .loop in
+    let s = c .before .before .before in
+    let rows = s .args .rows .now in
+    let most = s .pre .1 in
+    (omega arith, rw (l .inv .1) (copy-turn (s .args .state .now) rows (l .i) (omega arith) (omega (arith, most))), length-set (l .state) (l .i) _ ∙ l .inv .2)
 
 same-length : tie.Need-same-length Inv-loop μ-loop
 same-length c = search needs
 
 returns : tie.Need-returns Inv-loop μ-loop
 returns c =
-    let a = c .before .before .args in
-    let most : length (a .t2) ≡ 64 = search needs in
+    let s = c .before .before in
+    let rows = s .args .rows .now in
     let e : c .before .loop .i ≡ 64 = omega arith in
-    rw (c .before .loop .inv .1, e, take-all 64 (a .t2) (omega arith))
+    rw (c .before .loop .inv .1, e, take-all 64 rows (omega (arith, s .pre .1)))
 
 pub store-rows-spec : {M : Type 1} → statement M
 store-rows-spec =
@@ -61,7 +62,7 @@ store-rows-spec =
     μ-loop
     loop-holds
     mul-state
-    array-read-state
+    element-copy-out-state
     mul-state-2
     slice-write-state
     add-i

@@ -1,4 +1,4 @@
--- `loungeegret::load_table` meets its contract. The invariant: the first i rows are copied.
+-- `loungeegret::load_rows` meets its contract. The invariant: the first i rows are copied.
 use borrow.Author.Needs.{needs}
 use mathlib.Core.Path.{_≡_, refl}
 use mathlib.Core.List.{append-nil}
@@ -6,8 +6,8 @@ use Prim.Native.Nat.{_-_, _≤_}
 use native.Mathlib.Omega.{arith}
 use lib.ListN.{replicate}
 use Rattle.loungeegret.proofs.WordsLaws.{copied, copy-turn}
-use Rattle.loungeegret.proofs.load_table.Statement.{statement}
-use Rattle.loungeegret.proofs.load_table.Tie as tie
+use Rattle.loungeegret.proofs.load_rows.Statement.{statement}
+use Rattle.loungeegret.proofs.load_rows.Tie as tie
 
 abbrev Inv-loop : tie.InvT-loop
 Inv-loop state rows₀ i₀ rows i = (i ≤ 64) × (rows ≡ copied (replicate 64 0) state i)
@@ -47,8 +47,8 @@ returns c =
     let e : c .before .loop .i ≡ 64 = omega arith in
     rw (c .before .loop .inv .1, e, append-nil)
 
-pub load-table-spec : {M : Type 1} → statement M
-load-table-spec =
+pub load-rows-spec : {M : Type 1} → statement M
+load-rows-spec =
     tie.close
     (tie.spec
     Inv-loop
