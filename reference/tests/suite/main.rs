@@ -8,6 +8,7 @@ mod chains;
 mod choices;
 mod compare;
 mod fast;
+mod idle;
 mod islands;
 mod neighbours;
 mod openings;

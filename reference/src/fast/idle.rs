@@ -1,0 +1,94 @@
+//! What is told of passes that change nothing before they are worked through.
+
+use super::bits::bit;
+use super::grid::Split;
+use super::legs::{Legs, Levels};
+use super::pivots::Pivots;
+
+/// What a run or a pass by hand knows of passes that change nothing.
+pub trait Idle {
+    /// Whether anything is told at all.
+    const TELLS: bool;
+
+    fn new() -> Self;
+
+    /// Is the pass from this seed known to change nothing?
+    fn knows(&self, seed: usize) -> bool;
+
+    /// The pass from this seed has changed nothing.
+    fn learn(&mut self, seed: usize);
+
+    /// Legs have gone.
+    fn forget(&mut self);
+
+    /// One-sided: true only if the pass with these levels, which have all stations,
+    /// changes nothing. The split is working space.
+    fn tells(&mut self, legs: &Legs, split: &mut Split, levels: &Levels, limit: u32) -> bool;
+}
+
+/// Every pass is worked through.
+pub struct Untold;
+
+impl Idle for Untold {
+    const TELLS: bool = false;
+
+    #[inline]
+    fn new() -> Untold {
+        Untold
+    }
+
+    #[inline]
+    fn knows(&self, _: usize) -> bool {
+        false
+    }
+
+    #[inline]
+    fn learn(&mut self, _: usize) {}
+
+    #[inline]
+    fn forget(&mut self) {}
+
+    #[inline]
+    fn tells(&mut self, _: &Legs, _: &mut Split, _: &Levels, _: u32) -> bool {
+        false
+    }
+}
+
+/// A pass that changed nothing is not looked at again before legs go, and most of
+/// the others that change nothing are told by pivots.
+pub struct Told {
+    /// The seeds of passes known to change nothing.
+    known: u64,
+    pivots: Pivots,
+}
+
+impl Idle for Told {
+    const TELLS: bool = true;
+
+    #[inline]
+    fn new() -> Told {
+        Told {
+            known: 0,
+            pivots: Pivots::new(),
+        }
+    }
+
+    #[inline]
+    fn knows(&self, seed: usize) -> bool {
+        self.known & bit(seed) != 0
+    }
+
+    #[inline]
+    fn learn(&mut self, seed: usize) {
+        self.known |= bit(seed);
+    }
+
+    #[inline]
+    fn forget(&mut self) {
+        self.known = 0;
+    }
+
+    fn tells(&mut self, legs: &Legs, split: &mut Split, levels: &Levels, limit: u32) -> bool {
+        self.pivots.tell(legs, split, levels.all(), limit)
+    }
+}
