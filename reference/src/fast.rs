@@ -71,11 +71,6 @@ impl Outcome {
         removed: 0,
         none: true,
     };
-
-    #[inline]
-    fn changes_nothing(self) -> bool {
-        self.removed == 0 && !self.none
-    }
 }
 
 pub fn sweep(state: WorkState) -> Handled {
@@ -129,8 +124,7 @@ pub fn pass_by<I: Idle>(mut state: WorkState, seed: u64) -> Handled {
 /// its levels is filtered by?
 pub fn tells_idle(state: &WorkState, seed: u64) -> bool {
     let mut grid = Grid::<Told>::new(state);
-    let told = grid.foretell(seed as usize - 1, state.limit as u32);
-    told.is_ok_and(Outcome::changes_nothing)
+    grid.tells_pass(seed as usize - 1, state.limit as u32)
 }
 
 /// Sets place, mark and end after a call by hand.

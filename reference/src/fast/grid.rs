@@ -80,35 +80,39 @@ impl<I: Idle> Grid<I> {
 
     /// A pass; the seed is the index of its bit.
     pub fn pass(&mut self, seed: usize, limit: u32) -> Outcome {
-        if self.idle.knows(seed) {
+        if self.idle.knows(seed) || self.tells_at_once(seed) {
             return Outcome::NOTHING;
         }
-        let outcome = match self.foretell(seed, limit) {
-            Ok(outcome) => outcome,
-            Err(levels) => self.work_through(&levels, limit),
-        };
-        if outcome.changes_nothing() {
-            self.idle.learn(seed);
+        let levels = self.legs.levels(seed);
+        if levels.reached != all_stations(self.n) {
+            return Outcome::NONE;
         }
-        outcome
+        if !self.tells(&levels, limit) {
+            let outcome = self.work_through(&levels, limit);
+            if outcome.removed > 0 || outcome.none {
+                return outcome;
+            }
+        }
+        self.idle.learn(seed);
+        Outcome::NOTHING
     }
 
-    /// What is told of a pass before any of its levels is filtered by, or else
-    /// its levels.
-    #[inline]
-    pub fn foretell(&mut self, seed: usize, limit: u32) -> Result<Outcome, Levels> {
-        let all = all_stations(self.n);
-        if I::TELLS && self.legs.neighbours(seed) | bit(seed) == all {
-            return Ok(Outcome::NOTHING);
-        }
+    /// Is a pass told to change nothing before any of its levels is filtered by?
+    pub fn tells_pass(&mut self, seed: usize, limit: u32) -> bool {
         let levels = self.legs.levels(seed);
-        if levels.reached != all {
-            return Ok(Outcome::NONE);
-        }
-        if self.idle.tells(&self.legs, &mut self.split, &levels, limit) {
-            return Ok(Outcome::NOTHING);
-        }
-        Err(levels)
+        let reached = levels.reached == all_stations(self.n);
+        self.tells_at_once(seed) || reached && self.tells(&levels, limit)
+    }
+
+    /// Around a seed next to all other stations there is no inner level.
+    #[inline]
+    fn tells_at_once(&self, seed: usize) -> bool {
+        I::TELLS && self.legs.neighbours(seed) | bit(seed) == all_stations(self.n)
+    }
+
+    #[inline]
+    fn tells(&mut self, levels: &Levels, limit: u32) -> bool {
+        self.idle.tells(&self.legs, &mut self.split, levels, limit)
     }
 
     fn work_through(&mut self, levels: &Levels, limit: u32) -> Outcome {

@@ -1,10 +1,10 @@
-//! Passes that change nothing, told without striking a leg.
+//! Passes that change nothing, told without filtering by any level.
 //!
-//! A group of stations outside a level is known by one of them, the pivot. A station
-//! of the level with a leg to one that leads to the pivot, and another one with a
-//! leg from one that the pivot leads to, are the ends of a walk through the component
-//! that the group lies in. There may be more such pairs, and more groups in one
-//! component: so the answer is one-sided.
+//! A group of stations outside a level is known by one of them, its pivot. One
+//! station of the level with a leg to what leads to the pivot, and another one with
+//! a leg from what the pivot leads to, are joined by a walk through the component
+//! that the group lies in. There may be more such pairs, and more groups than one in
+//! a component: so the answer is one-sided.
 
 use super::bits::{indices, without_lone};
 use super::grid::Split;
@@ -13,24 +13,11 @@ use super::matching::assigned;
 
 /// The working space of the test.
 pub struct Pivots {
-    /// For each level the ends of pairs that walks by the seed join.
-    below: [Ends; 64],
+    /// For each level the ends of the pairs that walks by the seed join below it.
+    below: [(u64, u64); 64],
+    /// The groups above a level.
     groups: [Group; 64],
     count: usize,
-}
-
-/// First and second stations of pairs of a level.
-#[derive(Clone, Copy, Default)]
-struct Ends {
-    out: u64,
-    into: u64,
-}
-
-/// Stations that a pivot leads to, and stations that lead to it.
-#[derive(Clone, Copy, Default)]
-struct Reach {
-    ahead: u64,
-    back: u64,
 }
 
 /// Stations outside a level that hang together.
@@ -40,10 +27,17 @@ struct Group {
     reach: Reach,
 }
 
+/// Stations that a pivot leads to, and stations that lead to it.
+#[derive(Clone, Copy, Default)]
+struct Reach {
+    ahead: u64,
+    back: u64,
+}
+
 impl Pivots {
     pub fn new() -> Pivots {
         Pivots {
-            below: [Ends::default(); 64],
+            below: [(0, 0); 64],
             groups: [Group::default(); 64],
             count: 0,
         }
@@ -60,9 +54,9 @@ impl Pivots {
         for k in (1..levels.len() - 1).rev() {
             let (level, above) = (levels[k], levels[k + 1]);
             room |= above;
-            self.regroup(legs, room, edge);
+            self.regroup(legs, room, edge, above);
             edge = above;
-            if level.count_ones() <= limit && !self.leaves(legs, split, above, level, k) {
+            if level.count_ones() <= limit && !self.leaves(legs, split, level, above, k) {
                 return false;
             }
         }
@@ -73,31 +67,26 @@ impl Pivots {
     /// the seed lead to all stations, and do all lead to it?
     fn rise(&mut self, legs: &Legs, levels: &[u64]) -> bool {
         let mut room = levels[0];
-        let mut reach = Reach {
-            ahead: room,
-            back: room,
-        };
-        for (k, pair) in levels.windows(2).enumerate() {
-            let [below, level] = [pair[0], pair[1]];
-            let doors = reach.doors(legs, below, level);
-            self.below[k + 1] = doors.ends();
-            room |= level;
-            reach.ahead |= grown(room & !reach.ahead, doors.leave, |i| legs.rows[i]);
-            reach.back |= grown(room & !reach.back, doors.enter, |i| legs.columns[i]);
+        let mut reach = Reach::from(room);
+        for k in 1..levels.len() {
+            let next = reach.next(legs, levels[k - 1], levels[k]);
+            self.below[k] = next.ends();
+            room |= levels[k];
+            reach.grow(legs, room, next);
         }
         reach.ahead == room && reach.back == room
     }
 
-    /// The groups of `room`, which has one level more than before. Only the stations
-    /// of `edge`, the level before, have legs to it.
-    fn regroup(&mut self, legs: &Legs, room: u64, edge: u64) {
+    /// The groups of `room`, which the level `last` has joined. Only the stations of
+    /// `edge`, the level before, have legs to it.
+    fn regroup(&mut self, legs: &Legs, room: u64, edge: u64, last: u64) {
         let mut left = room;
         let mut count = 0;
         for g in 0..self.count {
-            let group = self.groups[g];
-            // Not so if another group has grown into it.
+            let mut group = self.groups[g];
+            // Not so if another group has taken it in.
             if group.part & !left == 0 {
-                let group = group.more(legs, left, edge);
+                group.grow(legs, left, edge, last);
                 left &= !group.part;
                 self.groups[count] = group;
                 count += 1;
@@ -112,48 +101,22 @@ impl Pivots {
         self.count = count;
     }
 
-    /// Does the level leave the table?
-    fn leaves(&self, legs: &Legs, split: &mut Split, above: u64, level: u64, k: usize) -> bool {
+    /// Do the pairs known of level k suffice to tell that it leaves all legs? Every
+    /// station of it has a mark, as each leads to all others. Only the stations of
+    /// the level above have legs to it from the groups.
+    #[inline]
+    fn leaves(&self, legs: &Legs, split: &mut Split, level: u64, above: u64, k: usize) -> bool {
+        let Split { out, into, .. } = split;
         let count = self.count;
-        if count + 1 > level.count_ones() as usize {
+        if count >= level.count_ones() as usize {
             return false;
         }
         for (g, group) in self.groups[..count].iter().enumerate() {
-            let ends = group.reach.doors(legs, above, level).ends();
-            split.out[g] = ends.out;
-            split.into[g] = ends.into;
+            (out[g], into[g]) = group.reach.next(legs, above, level).ends();
         }
-        split.out[count] = self.below[k].out;
-        split.into[count] = self.below[k].into;
-        settles(&split.out[..=count], level, |i| legs.columns[i])
-            && settles(&split.into[..=count], level, |i| legs.rows[i])
-    }
-}
-
-/// The stations of a level that have a leg into what leads to a pivot, and those with
-/// a leg from what the pivot leads to.
-struct Doors {
-    enter: u64,
-    leave: u64,
-}
-
-impl Doors {
-    #[inline]
-    fn ends(&self) -> Ends {
-        Ends {
-            out: without_lone(self.enter, self.leave),
-            into: without_lone(self.leave, self.enter),
-        }
-    }
-}
-
-impl Reach {
-    #[inline]
-    fn doors(&self, legs: &Legs, edge: u64, level: u64) -> Doors {
-        Doors {
-            enter: union(self.back & edge, |i| legs.columns[i]) & level,
-            leave: union(self.ahead & edge, |i| legs.rows[i]) & level,
-        }
+        (out[count], into[count]) = self.below[k];
+        settles(&out[..=count], level, |i| legs.columns[i])
+            && settles(&into[..=count], level, |i| legs.rows[i])
     }
 }
 
@@ -162,46 +125,64 @@ impl Group {
     #[inline]
     fn around(legs: &Legs, room: u64, pivot: u64) -> Group {
         let part = grown(room, pivot, |i| legs.neighbours(i));
-        Group {
-            part,
-            reach: Reach {
-                ahead: grown(part, pivot, |i| legs.rows[i]),
-                back: grown(part, pivot, |i| legs.columns[i]),
-            },
-        }
+        let mut reach = Reach::default();
+        reach.grow(legs, part, Reach::from(pivot));
+        Group { part, reach }
     }
 
-    /// The same group with what hangs together with it in `room`. Only its stations
-    /// of `edge` have legs to the rest of `room`.
+    /// Takes in what hangs together with the group in `room`, by the level `last` and
+    /// from the stations of `edge`.
     #[inline]
-    fn more(&self, legs: &Legs, room: u64, edge: u64) -> Group {
-        let part = more(room, self.part, edge, |i| legs.neighbours(i));
-        Group {
-            part,
-            reach: Reach {
-                ahead: more(part, self.reach.ahead, edge, |i| legs.rows[i]),
-                back: more(part, self.reach.back, edge, |i| legs.columns[i]),
-            },
-        }
+    fn grow(&mut self, legs: &Legs, room: u64, edge: u64, last: u64) {
+        let next = union(self.part & edge, |i| legs.neighbours(i)) & last;
+        self.part |= grown(room & !self.part, next, |i| legs.neighbours(i));
+        self.reach
+            .grow(legs, self.part, self.reach.next(legs, edge, last));
     }
 }
 
-/// One side of a level: the components can have stations of their own, each one of
-/// those that fit, whichever station with a leg inside the level is left out.
+impl Reach {
+    fn from(pivot: u64) -> Reach {
+        Reach {
+            ahead: pivot,
+            back: pivot,
+        }
+    }
+
+    /// The stations of a level one leg away from those of `edge`.
+    #[inline]
+    fn next(&self, legs: &Legs, edge: u64, level: u64) -> Reach {
+        Reach {
+            ahead: union(self.ahead & edge, |i| legs.rows[i]) & level,
+            back: union(self.back & edge, |i| legs.columns[i]) & level,
+        }
+    }
+
+    /// Takes in what can be reached in `room` from the next stations.
+    #[inline]
+    fn grow(&mut self, legs: &Legs, room: u64, next: Reach) {
+        self.ahead |= grown(room & !self.ahead, next.ahead, |i| legs.rows[i]);
+        self.back |= grown(room & !self.back, next.back, |i| legs.columns[i]);
+    }
+
+    /// The first and the second stations of the pairs that walks by the pivot join;
+    /// these are the next stations of a level.
+    #[inline]
+    fn ends(&self) -> (u64, u64) {
+        let out = without_lone(self.back, self.ahead);
+        let into = without_lone(self.ahead, self.back);
+        (out, into)
+    }
+}
+
+/// The groups can have stations of their own that fit, whichever one with a leg
+/// inside the level is left over.
 #[inline]
 fn settles(fits: &[u64], level: u64, word: impl Fn(usize) -> u64) -> bool {
     match assigned(fits, level) {
         Some(spare) => spare == level || union(level, word) & level & !spare == 0,
         None => false,
     }
-}
-
-/// A set with what it leads to in `room`, where only its stations of `edge` lead out
-/// of it.
-#[inline]
-fn more(room: u64, set: u64, edge: u64, word: impl Fn(usize) -> u64) -> u64 {
-    let rest = room & !set;
-    set | grown(rest, union(set & edge, &word) & rest, &word)
 }
 
 /// The stations of `room` that the words lead to from `first`, a part of it.
