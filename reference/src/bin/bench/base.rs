@@ -7,7 +7,7 @@ use reference::gen::SHAPES;
 
 use crate::markdown::print_by_shape;
 use crate::shapes::Inputs;
-use crate::times::{median, Results, Timed, Times};
+use crate::times::{Results, Timed, Times};
 use crate::SIZES;
 
 /// The calls whose times are told against the base.
@@ -54,40 +54,29 @@ impl Base {
         })
     }
 
-    /// What the library takes of its time in the base, and the plain Rust version of
-    /// its time beside the base.
-    fn ratios(&self, call: Timed, shape: &str, n: usize, times: &Times) -> (f64, f64) {
+    /// What the library takes of its time in the base. Both times are measured by the
+    /// plain Rust version, which was timed beside them in turns, so that it does not
+    /// count if the machine was busier one time.
+    fn ratio(&self, call: Timed, shape: &str, n: usize, times: &Times) -> f64 {
         let (proved, plain) = self.0[&key(call, shape, n)];
-        (times.proved / proved, times.plain / plain)
+        times.to_plain() / (proved / plain)
     }
 
     pub fn print(&self, shapes: &[Inputs], results: &[Results]) {
-        let told: Vec<&Results> = results
-            .iter()
-            .filter(|results| CALLS.contains(&results.call))
-            .collect();
+        let told = |results: &&Results| CALLS.contains(&results.call);
+        let told: Vec<&Results> = results.iter().filter(told).collect();
         let heads: Vec<String> = told.iter().map(|call| call.call.name().into()).collect();
         print_by_shape(shapes, &heads, |at| {
-            let cell = |results: &&Results| {
-                let row = &results.rows[at];
-                let sizes = SIZES.iter().zip(&row.by_size);
-                let ratios =
-                    sizes.map(|(&n, times)| self.ratios(results.call, row.shape, n, times));
-                let cells: Vec<String> = ratios.map(|ratio| format!("{:.2}", ratio.0)).collect();
-                cells.join(", ")
-            };
-            told.iter().map(cell).collect()
+            told.iter().map(|call| self.cell(call, at)).collect()
         });
-        println!("\nThe plain Rust version takes {:.2} of its time beside the base (the median of all rows and sizes of these calls).", self.drift(&told));
     }
 
-    /// How much slower the machine is than it was beside the base.
-    fn drift(&self, told: &[&Results]) -> f64 {
-        let of_call = |results: &&Results| -> Vec<f64> {
-            let all = results.all();
-            all.map(|(shape, n, times)| self.ratios(results.call, shape, n, times).1)
-                .collect()
-        };
-        median(told.iter().flat_map(of_call).collect())
+    /// The ratios of one shape for all sizes.
+    fn cell(&self, results: &Results, at: usize) -> String {
+        let row = &results.rows[at];
+        let sizes = SIZES.iter().zip(&row.by_size);
+        let ratios = sizes.map(|(&n, times)| self.ratio(results.call, row.shape, n, times));
+        let cells: Vec<String> = ratios.map(|ratio| format!("{ratio:.2}")).collect();
+        cells.join(", ")
     }
 }

@@ -13,37 +13,51 @@ use crate::{bars, components, SIZES, TABLES};
 const HEAD: &str = "\
 # Benchmarks
 
-The proved library beside two Rust versions over 64-bit words (`reference/src/fast`), in one process and on the same tables. The *plain* version works through every level of every pass. The *same algorithm* also keeps a word of passes known to change nothing, answers at once for a seed next to all other stations, and tells other passes that change nothing by pivots. The two differ in passes and runs alone. All numbers are those of one run on MACHINE of
+The proved library beside two Rust versions over 64-bit words (`reference/src/fast`), in one process and on the same tables. The *plain* version works through every level of every pass. The *same algorithm* does what the library does: it keeps a word of passes known to change nothing, answers at once for a seed next to all other stations, and tells most other passes that change nothing by pivots. The two differ in passes and runs alone.
+
+All numbers come from one call of the last line, on MACHINE:
 
 ```
-git worktree add ../base 6b2b745
+git worktree add --detach ../base 6b2b745
 (cd ../base && rt staticlib loungeegret && rt staticlib measured)
-LOUNGEEGRET_LIB=$PWD/../base/target/staticlib cargo run --release --offline --features library --bin bench --manifest-path reference/Cargo.toml -- --times base.times
+LOUNGEEGRET_LIB=$PWD/../base/target/staticlib cargo run --release --offline --features library --bin bench --manifest-path reference/Cargo.toml -- --times target/base.times
 rt staticlib loungeegret
 rt staticlib measured
-cargo run --release --offline --features library --bin bench --manifest-path reference/Cargo.toml -- --base base.times > docs/BENCHMARKS.md
+cargo run --release --offline --features library --bin bench --manifest-path reference/Cargo.toml -- --base target/base.times > docs/BENCHMARKS.md
 ```
 
-The first three lines write the times of commit 6b2b745 (*the base*), taken by the same program on the same tables; without `--base` the last one leaves out what is told against them.
+The first three lines write the times of commit 6b2b745, *the base*: taken by the same program, on the same tables. Without `--base` the last line leaves out what is told against them.
 ";
 
 const NOTES: &str = "\
-- All get the state in 69 lent words; the Rust versions load it from there and store it back, and that is part of their time. Before each repetition the words are copied in afresh, outside the time taken. Within it the caller clears no buffer; what a call clears of its own working space is part of its time.
+- All sides get the state in 69 lent words. The Rust versions load it from there and store it back, which is part of their time, as is what a call clears of its own working space. The words are copied in afresh before each repetition, outside the time taken.
 - The limit is 64. A run goes on until it is stable: only tables with this end are taken. The sheets that are opened have next sets, previous sets and fixed fields. A sheet is written into a lent buffer of 577 bytes, the length of the longest one.
-- *Growth* is the exponent of the number of stations by which a time grows from 16 to 64 stations: log of the ratio of the times by log 4.
+- *Growth* is the exponent with which a time grows with the number of stations from 16 to 64: the logarithm of the ratio of the times over that of 4.
 
 ## Tables
 
-Stations are numbered at random. In two-way tables each leg stands the other way too.
+All stations are numbered at random. Two-way, each leg stands the other way too:
 
-- full: all legs; roads: points at random in a square, two of them joined if no other one lies in the circle with the road as its diameter (a Gabriel graph); clusters: groups of four to six stations in a line, neighbours sharing two, with 60, 85 or 100 % of the roads inside them and those of a round; ring with chords: n/2, n or 2n chords between stations two to six places apart; grid: cells joined to their neighbours.
-- random: a round, and each other leg with the same chance, so that a station has 2, 3 or 4 legs in the mean, or 35 % of all; plain ring: a round and no other leg; ring with one-way chords: as above, all legs one way; one-way grid: each road in one direction, that of a round over all cells where it comes along; mixed grid: a third of the roads each in one direction, in the other and in both, and a round; band: stations in a line, legs one or two places on and one place back, and the round up by the odd places and down by the even ones.
+- full: all legs
+- roads: points at random in a square, two joined if no other one lies in the circle that has their road as its diameter (a Gabriel graph)
+- clusters: groups of four to six stations in a line, neighbours sharing two; 60, 85 or 100 % of the roads inside them, and those of a round
+- ring with chords: n/2, n or 2n chords between stations two to six places apart
+- grid: cells joined to their neighbours
 
-All but roads have a round for certain. Of roads one table in four, of 64 stations one in eight, ends stable; tables are drawn until there are enough.";
+One-way:
+
+- random: a round, and each leg with the same chance, so that a station has about 2, 3 or 4 legs, or 35 % of all
+- plain ring: a round and no other leg
+- ring with one-way chords: as above, each leg in one direction
+- one-way grid: each road in one direction, that of a round over all cells where it comes along
+- mixed grid: a third of the roads each in one direction, in the other and in both, and that round
+- band: stations in a line, legs one or two places on and one place back, and the round up by the odd places and down by the even ones
+
+All but roads have a round for certain. Of roads about one table in four ends stable, of 64 stations one in eight; tables are drawn until there are enough.";
 
 pub fn print(shapes: &[Inputs], results: &[Results], base: Option<&Base>) {
     println!("{}", HEAD.replace("MACHINE", &machine()));
-    println!("- A time is the median of {REPETITIONS} repetitions, and the mean over {TABLES} tables; for a pass also over all seeds.");
+    println!("- A time is the median of {REPETITIONS} repetitions, in which the sides take turns, and the mean over {TABLES} tables; for a pass also over all seeds.");
     println!("{NOTES}");
     print_runs(shapes);
     for call in results {
@@ -52,9 +66,11 @@ pub fn print(shapes: &[Inputs], results: &[Results], base: Option<&Base>) {
     print_components(shapes);
     if let Some(base) = base {
         println!("\n## Times against the base\n");
+        println!("What a call of the library takes of its time in the base, for 8, 16, 32 and 64 stations. Both times are measured by the plain Rust version timed beside them, so that it does not count if the machine was busier one time.\n");
         base.print(shapes, results);
     }
     println!("\n## Bars\n");
+    println!("The most that the library may take of the plain Rust version's time, and the highest ratio of all families.\n");
     bars::print(results);
 }
 

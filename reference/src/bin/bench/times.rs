@@ -165,15 +165,28 @@ fn repeat<'a>(
 /// The median time of each side.
 pub fn medians(sides: &mut [Repetition]) -> Vec<f64> {
     let mut times = vec![Vec::new(); sides.len()];
-    for _ in 0..TURNS {
+    for turn in 0..TURNS {
         for (side, times) in sides.iter_mut().zip(&mut times) {
-            times.extend((0..IN_A_TURN).map(|_| side()));
+            let in_turn = turn * IN_A_TURN..(turn + 1) * IN_A_TURN;
+            times.extend(in_turn.map(|depth| at_depth(depth, side)));
         }
     }
+    let median = |mut times: Vec<f64>| {
+        times.sort_by(f64::total_cmp);
+        times[REPETITIONS / 2]
+    };
     times.into_iter().map(median).collect()
 }
 
-pub fn median(mut numbers: Vec<f64>) -> f64 {
-    numbers.sort_by(f64::total_cmp);
-    numbers[numbers.len() / 2]
+/// A repetition farther down the stack. By where their working space comes to lie,
+/// some calls take a fifth longer, and chance says where the stack begins.
+#[inline(never)]
+fn at_depth(depth: usize, repetition: &mut Repetition) -> f64 {
+    let room = black_box([0_u8; 200]);
+    let time = match depth {
+        0 => repetition(),
+        _ => at_depth(depth - 1, repetition),
+    };
+    black_box(room);
+    time
 }
