@@ -5,25 +5,34 @@ use super::grid::Split;
 use super::legs::{Legs, Levels};
 use super::pivots::Pivots;
 
-/// What a run or a pass by hand knows of passes that change nothing.
+/// What a run or a pass by hand knows of passes that change nothing. By itself it is
+/// nothing at all.
 pub trait Idle {
-    /// Whether anything is told at all.
+    /// Whether anything is told.
     const TELLS: bool;
 
     fn new() -> Self;
 
     /// Is the pass from this seed known to change nothing?
-    fn knows(&self, seed: usize) -> bool;
+    #[inline]
+    fn knows(&self, _seed: usize) -> bool {
+        false
+    }
 
     /// The pass from this seed has changed nothing.
-    fn learn(&mut self, seed: usize);
+    #[inline]
+    fn learn(&mut self, _seed: usize) {}
 
     /// Legs have gone.
-    fn forget(&mut self);
+    #[inline]
+    fn forget(&mut self) {}
 
     /// One-sided: true only if the pass with these levels, which have all stations,
     /// changes nothing. The split is working space.
-    fn tells(&mut self, legs: &Legs, split: &mut Split, levels: &Levels, limit: u32) -> bool;
+    #[inline]
+    fn tells(&mut self, _: &Legs, _: &mut Split, _: &Levels, _limit: u32) -> bool {
+        false
+    }
 }
 
 /// Every pass is worked through.
@@ -35,22 +44,6 @@ impl Idle for Untold {
     #[inline]
     fn new() -> Untold {
         Untold
-    }
-
-    #[inline]
-    fn knows(&self, _: usize) -> bool {
-        false
-    }
-
-    #[inline]
-    fn learn(&mut self, _: usize) {}
-
-    #[inline]
-    fn forget(&mut self) {}
-
-    #[inline]
-    fn tells(&mut self, _: &Legs, _: &mut Split, _: &Levels, _: u32) -> bool {
-        false
     }
 }
 

@@ -1,10 +1,10 @@
 //! Passes that change nothing, told without filtering by any level.
 //!
-//! A group of stations outside a level is known by one of them, its pivot. One
-//! station of the level with a leg to what leads to the pivot, and another one with
-//! a leg from what the pivot leads to, are joined by a walk through the component
-//! that the group lies in. There may be more such pairs, and more groups than one in
-//! a component: so the answer is one-sided.
+//! A group of stations outside a level is known by one of them, its pivot. A station
+//! of the level with a leg to what leads to the pivot, and another one with a leg from
+//! what the pivot leads to, are joined by a walk through the component that the group
+//! lies in. There may be more such pairs, and several groups in one component: so the
+//! answer is one-sided.
 
 use super::bits::{indices, without_lone};
 use super::grid::Split;
@@ -67,7 +67,7 @@ impl Pivots {
     /// the seed lead to all stations, and do all lead to it?
     fn rise(&mut self, legs: &Legs, levels: &[u64]) -> bool {
         let mut room = levels[0];
-        let mut reach = Reach::from(room);
+        let mut reach = Reach::of(room);
         for k in 1..levels.len() {
             let next = reach.next(legs, levels[k - 1], levels[k]);
             self.below[k] = next.ends();
@@ -108,6 +108,7 @@ impl Pivots {
     fn leaves(&self, legs: &Legs, split: &mut Split, level: u64, above: u64, k: usize) -> bool {
         let Split { out, into, .. } = split;
         let count = self.count;
+        // The levels below are one group more.
         if count >= level.count_ones() as usize {
             return false;
         }
@@ -126,23 +127,23 @@ impl Group {
     fn around(legs: &Legs, room: u64, pivot: u64) -> Group {
         let part = grown(room, pivot, |i| legs.neighbours(i));
         let mut reach = Reach::default();
-        reach.grow(legs, part, Reach::from(pivot));
+        reach.grow(legs, part, Reach::of(pivot));
         Group { part, reach }
     }
 
-    /// Takes in what hangs together with the group in `room`, by the level `last` and
-    /// from the stations of `edge`.
+    /// Takes in what hangs together with the group in `room`. The stations of `edge`
+    /// have the legs that lead on, to the level `last`.
     #[inline]
     fn grow(&mut self, legs: &Legs, room: u64, edge: u64, last: u64) {
         let next = union(self.part & edge, |i| legs.neighbours(i)) & last;
         self.part |= grown(room & !self.part, next, |i| legs.neighbours(i));
-        self.reach
-            .grow(legs, self.part, self.reach.next(legs, edge, last));
+        let next = self.reach.next(legs, edge, last);
+        self.reach.grow(legs, self.part, next);
     }
 }
 
 impl Reach {
-    fn from(pivot: u64) -> Reach {
+    fn of(pivot: u64) -> Reach {
         Reach {
             ahead: pivot,
             back: pivot,

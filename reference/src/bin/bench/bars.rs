@@ -43,7 +43,7 @@ impl Bar {
         let of_call = results.iter().filter(|results| results.call == self.call);
         let all = of_call.flat_map(Results::all);
         let held = all.filter(|(_, n, _)| self.stations.contains(n));
-        let found = held.map(|(shape, n, times)| (times.to_plain(), shape, n));
+        let found = held.map(|(shape, n, times)| (times.over_plain(), shape, n));
         let (ratio, shape, n) = found.max_by(|a, b| a.0.total_cmp(&b.0)).expect("a time");
         (ratio, format!("{shape}, {n} stations"))
     }

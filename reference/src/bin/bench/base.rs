@@ -59,7 +59,7 @@ impl Base {
     /// count if the machine was busier one time.
     fn ratio(&self, call: Timed, shape: &str, n: usize, times: &Times) -> f64 {
         let (proved, plain) = self.0[&key(call, shape, n)];
-        times.to_plain() / (proved / plain)
+        times.over_plain() / (proved / plain)
     }
 
     pub fn print(&self, shapes: &[Inputs], results: &[Results]) {

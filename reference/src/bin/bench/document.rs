@@ -123,9 +123,9 @@ fn print_times(shapes: &[Inputs], results: &Results) {
 }
 
 fn cell(times: &Times, two: bool) -> String {
-    let (time, plain) = (unit(times.proved), times.to_plain());
+    let (time, plain) = (unit(times.proved), times.over_plain());
     match two {
-        true => format!("{time} ({:.2}, {plain:.2})", times.to_same()),
+        true => format!("{time} ({:.2}, {plain:.2})", times.over_same()),
         false => format!("{time} ({plain:.2})"),
     }
 }

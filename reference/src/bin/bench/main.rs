@@ -31,8 +31,8 @@ fn main() {
     let arguments: Vec<String> = env::args().skip(1).collect();
     let arguments: Vec<&str> = arguments.iter().map(String::as_str).collect();
     let done = match arguments[..] {
-        [] => Ok(print(None)),
-        ["--base", file] => Base::read(file).map(|base| print(Some(&base))),
+        [] => print(None),
+        ["--base", file] => Base::read(file).and_then(|base| print(Some(&base))),
         ["--times", file] => write(file),
         _ => Err(USAGE.into()),
     };
@@ -46,9 +46,10 @@ fn timed(shapes: &[Inputs]) -> [Results; Timed::ALL.len()] {
     Timed::ALL.map(|call| Results::of(call, shapes))
 }
 
-fn print(base: Option<&Base>) {
+fn print(base: Option<&Base>) -> Result<(), String> {
     let shapes = SHAPES.map(Inputs::of);
     document::print(&shapes, &timed(&shapes), base);
+    Ok(())
 }
 
 fn write(file: &str) -> Result<(), String> {

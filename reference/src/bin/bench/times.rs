@@ -66,11 +66,11 @@ pub struct Times {
 }
 
 impl Times {
-    pub fn to_same(&self) -> f64 {
+    pub fn over_same(&self) -> f64 {
         self.proved / self.same
     }
 
-    pub fn to_plain(&self) -> f64 {
+    pub fn over_plain(&self) -> f64 {
         self.proved / self.plain
     }
 
