@@ -1,5 +1,6 @@
 //! The calls of one implementation, so that several can run the same script.
 
+use crate::fast::{Idle, Told, Untold};
 use crate::filled::Filled;
 use crate::hand::Handled;
 use crate::list::Checked;
@@ -24,8 +25,24 @@ pub trait Calls {
 /// The calls over plain sets.
 pub struct Plain;
 
-/// The calls over words of bits.
+/// The calls over words of bits, every pass worked through.
 pub struct Fast;
+
+/// The same, with most passes that change nothing told beforehand.
+pub struct Telling;
+
+/// The calls over words of bits differ in what is told of passes.
+pub trait ByWords {
+    type Idle: Idle;
+}
+
+impl ByWords for Fast {
+    type Idle = Untold;
+}
+
+impl ByWords for Telling {
+    type Idle = Told;
+}
 
 impl Calls for Plain {
     fn open(&self, sheet: &[u8], limit: u64) -> Opened {
@@ -69,7 +86,7 @@ impl Calls for Plain {
     }
 }
 
-impl Calls for Fast {
+impl<C: ByWords> Calls for C {
     fn open(&self, sheet: &[u8], limit: u64) -> Opened {
         fast::open(sheet, limit)
     }
@@ -83,11 +100,11 @@ impl Calls for Fast {
     }
 
     fn pass(&self, state: WorkState, seed: u64) -> Handled {
-        fast::pass(state, seed)
+        fast::pass_by::<C::Idle>(state, seed)
     }
 
     fn run(&self, state: WorkState, budget: u32) -> Ran {
-        fast::run(state, budget)
+        fast::run_by::<C::Idle>(state, budget)
     }
 
     fn list_check(&self, state: &WorkState, numbers: &[u8]) -> Checked {

@@ -3,15 +3,21 @@
 //! Nothing here allocates. A run keeps rows and columns of the table side by
 //! side over all its steps, and a pass finds out which legs some choice takes
 //! bare from one matching for each direction.
+//!
+//! Pass and run come in two versions ([`Idle`]): one works through every level of
+//! every pass, the other tells most passes that change nothing beforehand.
 
 mod bits;
 mod chain;
 mod components;
 mod flood;
 mod grid;
+mod idle;
+mod legs;
 mod lines;
 mod list;
 mod matching;
+mod pivots;
 mod sheet;
 mod sweep;
 mod written;
@@ -26,6 +32,7 @@ use crate::run::Ran;
 use crate::state::{good_limit, last_place, End, WorkState};
 
 pub use self::components::components;
+pub use self::idle::{Idle, Told, Untold};
 pub use self::lines::report;
 pub use self::list::list_check;
 pub use self::sheet::open;
@@ -87,7 +94,17 @@ fn by_rows(mut state: WorkState, step: fn(&mut [u64]) -> Outcome) -> Handled {
     by_hand(state, outcome)
 }
 
-pub fn pass(mut state: WorkState, seed: u64) -> Handled {
+/// The pass, worked through level by level.
+pub fn pass(state: WorkState, seed: u64) -> Handled {
+    pass_by::<Untold>(state, seed)
+}
+
+/// The run, with every pass worked through.
+pub fn run(state: WorkState, budget: u32) -> Ran {
+    run_by::<Untold>(state, budget)
+}
+
+pub fn pass_by<I: Idle>(mut state: WorkState, seed: u64) -> Handled {
     if bad(&state) {
         return hand::refused(card::BAD_WORK_STATE, state);
     }
@@ -97,10 +114,17 @@ pub fn pass(mut state: WorkState, seed: u64) -> Handled {
     if state.end == End::None {
         return by_hand(state, Outcome::NOTHING);
     }
-    let mut grid = Grid::new(&state);
+    let mut grid = Grid::<I>::new(&state);
     let outcome = grid.pass(seed as usize - 1, state.limit as u32);
-    state.rows = grid.rows;
+    state.rows = grid.legs.rows;
     by_hand(state, outcome)
+}
+
+/// On a good state: is the pass from this seed told to change nothing before any of
+/// its levels is filtered by?
+pub fn tells_idle(state: &WorkState, seed: u64) -> bool {
+    let mut grid = Grid::<Told>::new(state);
+    grid.tells_pass(seed as usize - 1, state.limit as u32)
 }
 
 /// Sets place, mark and end after a call by hand.
@@ -120,14 +144,14 @@ fn by_hand(mut state: WorkState, outcome: Outcome) -> Handled {
     }
 }
 
-pub fn run(mut state: WorkState, budget: u32) -> Ran {
+pub fn run_by<I: Idle>(mut state: WorkState, budget: u32) -> Ran {
     if bad(&state) {
         return ran(card::BAD_WORK_STATE, state, 0, 0);
     }
     if state.end != End::Open || budget == 0 {
         return ran(card::TAKEN, state, 0, 0);
     }
-    let mut grid = Grid::new(&state);
+    let mut grid = Grid::<I>::new(&state);
     let mut steps = 0;
     let mut removed = 0;
     while state.end == End::Open && steps < budget {
@@ -136,7 +160,7 @@ pub fn run(mut state: WorkState, budget: u32) -> Ran {
         steps += 1;
         advance(&mut state, outcome);
     }
-    state.rows = grid.rows;
+    state.rows = grid.legs.rows;
     ran(card::TAKEN, state, steps, removed)
 }
 

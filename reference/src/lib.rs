@@ -35,7 +35,7 @@ pub mod vectors;
 pub mod words;
 pub mod written;
 
-pub use calls::{Calls, Fast, Plain};
+pub use calls::{Calls, Fast, Plain, Telling};
 pub use chain::chain;
 pub use filled::Filled;
 pub use hand::Handled;

@@ -1,10 +1,10 @@
 //! Reads a sheet from standard input and prints what the filter makes of it.
 //! With the argument `fast` the calls over words of bits are made instead of the
-//! plain ones.
+//! plain ones, with `telling` those that tell passes which change nothing.
 
 use std::io::{self, Read, Write};
 
-use reference::{program, Calls, Fast, Plain};
+use reference::{program, Calls, Fast, Plain, Telling};
 
 fn main() -> io::Result<()> {
     let mut sheet = Vec::new();
@@ -14,6 +14,7 @@ fn main() -> io::Result<()> {
         .read_to_end(&mut sheet)?;
     let calls: &dyn Calls = match std::env::args().nth(1).as_deref() {
         Some("fast") => &Fast,
+        Some("telling") => &Telling,
         _ => &Plain,
     };
     io::stdout().write_all(program::output(calls, &sheet).as_bytes())

@@ -26,6 +26,18 @@ pub fn lowest(word: u64) -> usize {
     word.trailing_zeros() as usize & 63
 }
 
+/// The stations of `own` that have a different one in `other`.
+#[inline]
+pub fn without_lone(own: u64, other: u64) -> u64 {
+    if other == 0 {
+        0
+    } else if is_single(other) {
+        own & !other
+    } else {
+        own
+    }
+}
+
 #[inline]
 pub fn indices(mut word: u64) -> impl Iterator<Item = usize> {
     std::iter::from_fn(move || {

@@ -1,8 +1,9 @@
 //! Components of a separator, and the pairs of its stations that walks through them
 //! join.
 
-use super::bits::{bit, indices, is_single, lowest};
+use super::bits::{bit, indices, lowest, without_lone};
 use super::components::grow;
+use super::legs::Legs;
 use crate::state::Rows;
 
 /// A component with what its stations have met while it was grown.
@@ -18,7 +19,8 @@ pub struct Flood {
 impl Flood {
     /// The component of the lowest station of `rest`, staying inside `rest`.
     #[inline]
-    pub fn new(rows: &Rows, columns: &Rows, rest: u64) -> Flood {
+    pub fn new(legs: &Legs, rest: u64) -> Flood {
+        let Legs { rows, columns } = legs;
         let (mut entered_from, mut leads_to, mut one_way) = (0, 0, 0);
         let component = grow(rest, |i| {
             entered_from |= columns[i];
@@ -37,7 +39,7 @@ impl Flood {
     /// The first and the second stations of the pairs of the separator that a walk
     /// through the component joins.
     #[inline]
-    pub fn ends(&self, rows: &Rows, columns: &Rows, separator: u64) -> (u64, u64) {
+    pub fn ends(&self, legs: &Legs, separator: u64) -> (u64, u64) {
         let enter = self.entered_from & separator;
         let leave = self.leads_to & separator;
         if self.one_way & self.component == 0 {
@@ -46,8 +48,8 @@ impl Flood {
             return (without_lone(enter, leave), without_lone(leave, enter));
         }
         // Walks back are left to make to those that no walk has come to.
-        let (out, met) = leading(rows, self.component, enter, leave);
-        let (others, _) = leading(columns, self.component, leave & !met, enter);
+        let (out, met) = leading(&legs.rows, self.component, enter, leave);
+        let (others, _) = leading(&legs.columns, self.component, leave & !met, enter);
         (out, met | others)
     }
 }
@@ -75,16 +77,4 @@ fn leading(words: &Rows, component: u64, from: u64, to: u64) -> (u64, u64) {
         }
     }
     (leading, met)
-}
-
-/// The stations of `own` that have a different one in `other`.
-#[inline]
-fn without_lone(own: u64, other: u64) -> u64 {
-    if other == 0 {
-        0
-    } else if is_single(other) {
-        own & !other
-    } else {
-        own
-    }
 }

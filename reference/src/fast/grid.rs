@@ -3,53 +3,42 @@
 use super::bits::{all_stations, bit, indices, transposed};
 use super::chain::Chains;
 use super::flood::Flood;
+use super::idle::Idle;
+use super::legs::{Legs, Levels};
 use super::matching::spare_stations;
 use super::sweep::sweep_rows;
 use super::Outcome;
 use crate::state::{Rows, WorkState};
 
-/// Rows and columns of one table, with the working space of a pass.
-pub struct Grid {
+/// The legs of one table, with the working space of a pass and what is told of
+/// passes beforehand.
+pub struct Grid<I> {
     n: usize,
-    pub rows: Rows,
-    columns: Rows,
+    pub legs: Legs,
     split: Split,
-}
-
-/// The levels from a seed, and the stations in none of them.
-struct Levels {
-    words: Rows,
-    last: usize,
-    unreached: u64,
-}
-
-impl Levels {
-    /// The levels between the first and the last.
-    fn inner(&self) -> &[u64] {
-        self.words.get(1..self.last).unwrap_or_default()
-    }
+    idle: I,
 }
 
 /// What a separator leaves: for each component the stations of the separator
 /// that can take it in an out-choice and in an in-choice.
-struct Split {
-    count: usize,
-    out: Rows,
-    into: Rows,
+pub struct Split {
+    pub count: usize,
+    pub out: Rows,
+    pub into: Rows,
 }
 
-impl Grid {
-    pub fn new(state: &WorkState) -> Grid {
+impl<I: Idle> Grid<I> {
+    pub fn new(state: &WorkState) -> Grid<I> {
         let n = state.n as usize;
         Grid {
             n,
-            rows: state.rows,
-            columns: transposed(&state.rows, n),
+            legs: Legs::new(&state.rows, n),
             split: Split {
                 count: 0,
                 out: [0; 64],
                 into: [0; 64],
             },
+            idle: I::new(),
         }
     }
 
@@ -57,40 +46,76 @@ impl Grid {
     /// elsewhere.
     #[inline]
     pub fn step(&mut self, place: u64, limit: u32) -> Outcome {
-        match place {
+        let outcome = match place {
             0 => self.sweep(),
             1 => self.chain(),
             place => self.pass(place as usize - 2, limit),
+        };
+        if outcome.removed > 0 {
+            self.idle.forget();
         }
+        outcome
     }
 
     fn sweep(&mut self) -> Outcome {
-        let outcome = sweep_rows(&mut self.rows[..self.n]);
+        let outcome = sweep_rows(&mut self.legs.rows[..self.n]);
         if outcome.removed > 0 {
-            self.columns = transposed(&self.rows, self.n);
+            self.legs.columns = transposed(&self.legs.rows, self.n);
         }
         outcome
     }
 
     fn chain(&mut self) -> Outcome {
-        let Some(chains) = Chains::of(&self.rows[..self.n]) else {
+        let Some(chains) = Chains::of(&self.legs.rows[..self.n]) else {
             return Outcome::NONE;
         };
         for first in indices(chains.firsts) {
-            self.columns[first] &= !bit(usize::from(chains.last[first]));
+            self.legs.columns[first] &= !bit(usize::from(chains.last[first]));
         }
         Outcome {
-            removed: chains.strike(&mut self.rows),
+            removed: chains.strike(&mut self.legs.rows),
             none: false,
         }
     }
 
     /// A pass; the seed is the index of its bit.
     pub fn pass(&mut self, seed: usize, limit: u32) -> Outcome {
-        let levels = self.levels(seed);
-        if levels.unreached != 0 {
+        if self.idle.knows(seed) || self.tells_at_once(seed) {
+            return Outcome::NOTHING;
+        }
+        let levels = self.legs.levels(seed);
+        if levels.reached != all_stations(self.n) {
             return Outcome::NONE;
         }
+        if !self.tells(&levels, limit) {
+            let outcome = self.work_through(&levels, limit);
+            if outcome.removed > 0 || outcome.none {
+                return outcome;
+            }
+        }
+        self.idle.learn(seed);
+        Outcome::NOTHING
+    }
+
+    /// Is a pass told to change nothing before any of its levels is filtered by?
+    pub fn tells_pass(&mut self, seed: usize, limit: u32) -> bool {
+        let levels = self.legs.levels(seed);
+        let reached = levels.reached == all_stations(self.n);
+        self.tells_at_once(seed) || reached && self.tells(&levels, limit)
+    }
+
+    /// Around a seed next to all other stations there is no inner level.
+    #[inline]
+    fn tells_at_once(&self, seed: usize) -> bool {
+        I::TELLS && self.legs.neighbours(seed) | bit(seed) == all_stations(self.n)
+    }
+
+    #[inline]
+    fn tells(&mut self, levels: &Levels, limit: u32) -> bool {
+        self.idle.tells(&self.legs, &mut self.split, levels, limit)
+    }
+
+    fn work_through(&mut self, levels: &Levels, limit: u32) -> Outcome {
         let mut outcome = Outcome::NOTHING;
         for &separator in levels.inner() {
             if separator.count_ones() > limit {
@@ -107,41 +132,11 @@ impl Grid {
         outcome
     }
 
-    #[inline]
-    fn neighbours(&self, i: usize) -> u64 {
-        self.rows[i] | self.columns[i]
-    }
-
-    fn levels(&self, seed: usize) -> Levels {
-        let mut words = [0; 64];
-        let mut reached = bit(seed);
-        let mut level = reached;
-        let mut last = 0;
-        loop {
-            words[last] = level;
-            let mut next = 0;
-            for i in indices(level) {
-                next |= self.neighbours(i);
-            }
-            next &= !reached;
-            if next == 0 {
-                return Levels {
-                    words,
-                    last,
-                    unreached: all_stations(self.n) & !reached,
-                };
-            }
-            reached |= next;
-            level = next;
-            last += 1;
-        }
-    }
-
     /// Legs removed by one separator, or nothing for the verdict none.
     fn filter(&mut self, separator: u64) -> Option<u64> {
         let (mut bare_out, mut bare_into) = (0, 0);
         for i in indices(separator) {
-            let inside = self.rows[i] & separator;
+            let inside = self.legs.rows[i] & separator;
             bare_into |= inside;
             if inside != 0 {
                 bare_out |= bit(i);
@@ -165,9 +160,9 @@ impl Grid {
             if count == most {
                 return None;
             }
-            let flood = Flood::new(&self.rows, &self.columns, rest);
+            let flood = Flood::new(&self.legs, rest);
             rest &= !flood.component;
-            let (out, into) = flood.ends(&self.rows, &self.columns, separator);
+            let (out, into) = flood.ends(&self.legs, separator);
             if out == 0 || into == 0 {
                 return None;
             }
@@ -189,12 +184,9 @@ impl Grid {
             } else {
                 0
             };
-            let gone = self.rows[i] & separator & !kept;
-            self.rows[i] &= !gone;
+            let gone = self.legs.rows[i] & separator & !kept;
             removed += u64::from(gone.count_ones());
-            for j in indices(gone) {
-                self.columns[j] &= !bit(i);
-            }
+            self.legs.strike(i, gone);
         }
         removed
     }

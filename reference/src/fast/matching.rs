@@ -10,6 +10,12 @@ pub fn spare_stations(fits: &[u64], separator: u64, bare: u64) -> Option<u64> {
     if marked != separator {
         return None;
     }
+    assigned(fits, separator)
+}
+
+/// The same whatever is marked: the stations that components handed to different
+/// ones can leave over, or nothing if they can't be.
+pub fn assigned(fits: &[u64], separator: u64) -> Option<u64> {
     let mut matching = Matching {
         fits,
         held: [0; 64],

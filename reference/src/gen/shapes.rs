@@ -1,65 +1,134 @@
-//! The kinds of tables that are timed and measured.
+//! The kinds of tables that are timed and measured, for n a power of two from 8 on.
+//! All have their stations numbered at random.
 
-use super::{plant_round, random, ring, shuffled, Family, Xorshift};
-use crate::table::LegTable;
+use super::grids::{mixed_grid, one_way_grid, two_way_grid};
+use super::{add_round, plant_round, ring, round_along, shuffled, two_way, Xorshift};
+use crate::table::{Leg, LegTable};
 
 /// A kind of tables.
 pub struct Shape {
     pub name: &'static str,
+    pub ways: Ways,
     make: fn(&mut Xorshift, usize) -> LegTable,
 }
 
-pub const SHAPES: [Shape; 9] = [
-    Shape {
-        name: "full",
-        make: |rng, n| Family::Full.table(rng, n),
-    },
-    Shape {
-        name: "random, 4 legs per station",
-        make: |rng, n| random_with_round(rng, n, 300 / (n - 1)),
-    },
-    Shape {
-        name: "random, 35 %",
-        make: |rng, n| random_with_round(rng, n, 35),
-    },
-    Shape {
-        name: "plain ring",
-        make: |rng, n| shuffled(rng, &ring(n)),
-    },
-    Shape {
-        name: "ring with chords",
-        make: |rng, n| Family::RingWithChords.table(rng, n),
-    },
-    Shape {
-        name: "grid both ways",
-        make: |rng, n| Family::Grid.table(rng, n),
-    },
-    Shape {
-        name: "clusters joined at two",
-        make: |rng, n| Family::ClustersAtTwo.table(rng, n),
-    },
-    Shape {
-        name: "band",
-        make: |rng, n| shuffled(rng, &band(n)),
-    },
-    Shape {
-        name: "one-way roads",
-        make: |rng, n| {
-            let table = one_way_roads(rng, n);
-            shuffled(rng, &table)
-        },
-    },
+/// Whether each leg of a table stands the other way too.
+#[derive(Clone, Copy, Debug, PartialEq, Eq)]
+pub enum Ways {
+    Both,
+    One,
+}
+
+/// First the two-way kinds, then the one-way ones.
+pub const SHAPES: [Shape; 14] = [
+    both("full", |_, n| LegTable::full(n)),
+    both("roads", roads),
+    both("clusters", clusters),
+    both("ring with chords", |rng, n| {
+        let table = ring_with_chords(rng, n);
+        two_way(n, &table.legs())
+    }),
+    both("grid", |_, n| two_way_grid(n)),
+    one("random, 2 legs a station", |rng, n| {
+        random_with_round(rng, n, 1, n - 1)
+    }),
+    one("random, 3 legs a station", |rng, n| {
+        random_with_round(rng, n, 2, n - 1)
+    }),
+    one("random, 4 legs a station", |rng, n| {
+        random_with_round(rng, n, 3, n - 1)
+    }),
+    one("random, 35 %", |rng, n| random_with_round(rng, n, 35, 100)),
+    one("plain ring", |_, n| ring(n)),
+    one("ring with one-way chords", ring_with_chords),
+    one("one-way grid", one_way_grid),
+    one("mixed grid", mixed_grid),
+    one("band", |_, n| band(n)),
 ];
+
+type Make = fn(&mut Xorshift, usize) -> LegTable;
+
+const fn both(name: &'static str, make: Make) -> Shape {
+    let ways = Ways::Both;
+    Shape { name, ways, make }
+}
+
+const fn one(name: &'static str, make: Make) -> Shape {
+    let ways = Ways::One;
+    Shape { name, ways, make }
+}
 
 impl Shape {
     pub fn table(&self, rng: &mut Xorshift, n: usize) -> LegTable {
-        (self.make)(rng, n)
+        let table = (self.make)(rng, n);
+        shuffled(rng, &table)
     }
 }
 
-fn random_with_round(rng: &mut Xorshift, n: usize, density: usize) -> LegTable {
-    let mut table = random(rng, n, density);
+/// A round, and each leg with the chance `part` of `whole`.
+fn random_with_round(rng: &mut Xorshift, n: usize, part: usize, whole: usize) -> LegTable {
+    let mut table = LegTable::full(n);
+    let legs = table.legs().into_iter();
+    let gone: Vec<Leg> = legs.filter(|_| rng.below(whole) >= part).collect();
+    table.strike(&gone);
     plant_round(rng, &mut table);
+    table
+}
+
+/// Points at random in a square. A road joins two of them if no other one lies in
+/// the circle that has the road as its diameter (a Gabriel graph).
+fn roads(rng: &mut Xorshift, n: usize) -> LegTable {
+    let mut number = || rng.below(1 << 20) as i64;
+    let points: Vec<(i64, i64)> = (0..n).map(|_| (number(), number())).collect();
+    let outside = |k: usize, (i, j): Leg| {
+        let [(x, y), a, b] = [points[k - 1], points[i - 1], points[j - 1]];
+        (a.0 - x) * (b.0 - x) + (a.1 - y) * (b.1 - y) >= 0
+    };
+    let joined = |&leg: &Leg| (1..=n).all(|k| outside(k, leg));
+    let legs = LegTable::full(n).legs().into_iter();
+    LegTable::from_legs(n, legs.filter(joined))
+}
+
+/// Stations in a line, cut into groups of four to six, of which neighbours share two
+/// stations. Roads inside the groups, each with the same chance, and the round that
+/// goes up by the odd places and down by the even ones.
+fn clusters(rng: &mut Xorshift, n: usize) -> LegTable {
+    let density = rng.pick(&[60, 85, 100]);
+    let mut roads: Vec<Leg> = up_and_down(n).legs();
+    let mut start = 1;
+    while start + 1 < n {
+        let end = (start + rng.between(3, 5)).min(n);
+        let pairs = (start..=end).flat_map(|i| (start..i).map(move |j| (i, j)));
+        roads.extend(pairs.filter(|_| rng.percent(density)));
+        start = end - 1;
+    }
+    two_way(n, &roads)
+}
+
+/// A ring with n/2, n or 2n chords, each between stations two to six places apart
+/// and in one direction.
+fn ring_with_chords(rng: &mut Xorshift, n: usize) -> LegTable {
+    let mut table = ring(n);
+    for _ in 0..rng.pick(&[n / 2, n, 2 * n]) {
+        let i = rng.between(1, n);
+        let j = (i + rng.between(2, 6) - 1) % n + 1;
+        let (from, to) = rng.pick(&[(i, j), (j, i)]);
+        table.add(from, to);
+    }
+    table
+}
+
+/// The round of stations in a line that goes up by the odd places and down by the
+/// even ones.
+fn up_and_down(n: usize) -> LegTable {
+    let odd = |i: &usize| i % 2 == 1;
+    let up = (1..=n).filter(odd);
+    let down = (1..=n).rev().filter(|i| !odd(i));
+    let mut table = LegTable::empty(n);
+    add_round(
+        &mut table,
+        &round_along(&up.chain(down).collect::<Vec<_>>()),
+    );
     table
 }
 
@@ -67,46 +136,13 @@ fn random_with_round(rng: &mut Xorshift, n: usize, density: usize) -> LegTable {
 /// round that goes up by the odd places and down by the even ones. A run
 /// strikes few legs in each of many cycles.
 pub fn band(n: usize) -> LegTable {
-    let mut table = LegTable::empty(n);
+    let mut table = up_and_down(n);
     for i in 1..n {
         table.add(i, i + 1);
         table.add(i + 1, i);
     }
     for i in 1..n - 1 {
         table.add(i, i + 2);
-    }
-    for i in (4..=n).step_by(2) {
-        table.add(i, i - 2);
-    }
-    table
-}
-
-/// The cells of a grid, for n a power of two. Roads join neighbours, each in one
-/// direction: that of a round where it comes along, else any.
-fn one_way_roads(rng: &mut Xorshift, n: usize) -> LegTable {
-    let rows = 1 << (n.ilog2() / 2);
-    let width = n / rows;
-    let at = |row: usize, column: usize| row * width + column + 1;
-    let mut table = LegTable::empty(n);
-
-    // To and fro over all columns but the first, which is the way back.
-    let mut way = Vec::new();
-    for row in 0..rows {
-        let turn = |column| if row % 2 == 0 { column } else { width - column };
-        way.extend((1..width).map(|column| at(row, turn(column))));
-    }
-    way.extend((0..rows).rev().map(|row| at(row, 0)));
-    for (k, &station) in way.iter().enumerate() {
-        table.add(station, way[(k + 1) % n]);
-    }
-
-    let across = (1..=n).filter(|i| i % width != 0).map(|i| (i, i + 1));
-    let along = (1..=n - width).map(|i| (i, i + width));
-    for (i, j) in across.chain(along) {
-        if !table.has(i, j) && !table.has(j, i) {
-            let (from, to) = if rng.percent(50) { (i, j) } else { (j, i) };
-            table.add(from, to);
-        }
     }
     table
 }

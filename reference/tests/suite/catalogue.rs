@@ -7,7 +7,7 @@ use reference::rounds::rounds;
 use reference::{list_check, vectors, Fast, LegTable};
 
 use crate::scripts::answers;
-use crate::{opened, BOTH};
+use crate::{opened, ALL};
 
 /// Every list of n stations.
 fn lists_of(n: usize) -> impl Iterator<Item = Vec<u8>> {
@@ -32,7 +32,7 @@ fn solution_counts_by_enumerated_rounds() {
 fn solution_counts_by_list_checks() {
     for (n, count) in &SOLUTION_COUNTS[..5] {
         let state = opened(&LegTable::full(*n));
-        for calls in BOTH {
+        for calls in ALL {
             let yes = lists_of(*n).filter(|list| calls.list_check(&state, list).yes);
             assert_eq!(yes.count(), *count);
         }
@@ -64,7 +64,7 @@ fn list_checks_accept_each_round_of_seven_and_eight() {
         let table = LegTable::full(n);
         let state = opened(&table);
         for successors in rounds(&table) {
-            for calls in BOTH {
+            for calls in ALL {
                 assert!(calls.list_check(&state, &as_bytes(&successors)).yes);
             }
         }
@@ -74,7 +74,7 @@ fn list_checks_accept_each_round_of_seven_and_eight() {
 #[test]
 fn all_solutions_of_the_example() {
     let state = opened(&catalogue());
-    for calls in BOTH {
+    for calls in ALL {
         let yes: Vec<_> = lists_of(4)
             .filter(|list| calls.list_check(&state, list).yes)
             .collect();

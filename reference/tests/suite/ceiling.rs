@@ -7,7 +7,7 @@ use reference::program::{self, BUDGET};
 use reference::state::last_place;
 use reference::{Calls, End, Fast, LegTable, Plain, WorkState};
 
-use crate::{opened, BOTH};
+use crate::{opened, ALL, FAST};
 
 /// A run whose budget is the ceiling comes to its end, and just its steps suffice.
 fn hold(calls: &dyn Calls, state: WorkState) -> Nearness {
@@ -39,6 +39,12 @@ fn at_every_place(table: &LegTable, limit: u64) -> impl Iterator<Item = WorkStat
 fn hold_at_every_place(calls: &dyn Calls, table: &LegTable, limit: u64) {
     for state in at_every_place(table, limit) {
         hold(calls, state);
+    }
+}
+
+fn fast_at_every_place(table: &LegTable, limit: u64) {
+    for fast in FAST {
+        hold_at_every_place(fast, table, limit);
     }
 }
 
@@ -92,7 +98,7 @@ fn all_tables_of_two_to_four_stations() {
             let runs = all_tables(n).map(|table| {
                 let state = WorkState::opened(&table, limit);
                 let near = hold(&Plain, state);
-                assert_eq!(near, hold(&Fast, state));
+                assert!(FAST.iter().all(|&fast| hold(fast, state) == near));
                 near
             });
             assert_eq!(runs.max(), Some(Nearness { steps, ceiling }));
@@ -105,7 +111,7 @@ fn all_tables_of_two_to_four_stations_from_every_place() {
     for limit in [1, 64] {
         for n in 2..=4 {
             for table in all_tables(n) {
-                hold_at_every_place(&Fast, &table, limit);
+                fast_at_every_place(&table, limit);
             }
         }
         for table in (2..=3).flat_map(all_tables) {
@@ -131,7 +137,7 @@ fn made_up_tables_of_5_to_16_stations() {
             for limit in [1, 2, 64] {
                 let near = hold(&Fast, WorkState::opened(&table, limit));
                 nearest = nearest.max(near);
-                hold_at_every_place(&Fast, &table, limit);
+                fast_at_every_place(&table, limit);
             }
             hold(&Plain, opened(&table));
         }
@@ -145,14 +151,15 @@ fn made_up_tables_of_64_stations() {
     let mut rng = Xorshift::new(62);
     for table in made_up(&mut rng, 64) {
         let state = opened(&table);
-        let steps = hold(&Fast, state).steps;
+        let [steps, told] = FAST.map(|fast| hold(fast, state).steps);
+        assert_eq!(steps, told);
         for (place, mark) in [(0, true), (1, false), (33, true), (65, false), (65, true)] {
             let begun = WorkState {
                 place,
                 mark,
                 ..state
             };
-            hold(&Fast, begun);
+            assert_eq!(hold(FAST[0], begun), hold(FAST[1], begun));
         }
         if steps < 140 {
             hold(&Plain, state);
@@ -166,19 +173,21 @@ fn the_longest_runs_that_were_found() {
     let of_more = [(80, 190), (154, 350), (270, 630)];
     let expected = of_few.into_iter().chain(of_more);
     for (table, (steps, ceiling)) in long_runs().iter().zip(expected) {
-        for calls in BOTH {
+        for calls in ALL {
             let near = hold(calls, opened(table));
             assert_eq!(near, Nearness { steps, ceiling });
         }
-        hold_at_every_place(&Fast, table, 64);
+        fast_at_every_place(table, 64);
     }
-    assert_eq!(hold(&Fast, opened(&band(64))).steps, 1_188);
+    for fast in FAST {
+        assert_eq!(hold(fast, opened(&band(64))).steps, 1_188);
+    }
 }
 
 /// On an ended state there is nothing to do, so that any budget is enough.
 #[test]
 fn ended_states_take_no_step() {
-    for calls in BOTH {
+    for calls in ALL {
         for end in [End::Stable, End::None] {
             for state in at_every_place(&LegTable::full(5), 64) {
                 let ended = WorkState { end, ..state };

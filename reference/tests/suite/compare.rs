@@ -13,17 +13,29 @@ use reference::run::Ran;
 use reference::sheet::Opened;
 use reference::state::last_place;
 use reference::written::written_sheet;
-use reference::{card, open, program, Calls, End, Fast, Filled, LegTable, WorkState};
+use reference::{card, open, program, Calls, End, Fast, Filled, LegTable, Telling, WorkState};
 
-#[test]
-fn fast_calls_differ_nowhere() {
+/// Compares calls on sheets, which must show no difference.
+fn compared(tested: &dyn Calls, seed: u64, sheets: u64) -> Counts {
     let mut counts = Counts::default();
-    for index in 0..1_000 {
-        match compare_sheet(&Fast, 3, index) {
+    for index in 0..sheets {
+        match compare_sheet(tested, seed, index) {
             Ok(more) => counts.add(&more),
             Err(difference) => panic!("sheet {index}\n{difference}"),
         }
     }
+    counts
+}
+
+#[test]
+fn telling_calls_differ_nowhere() {
+    let counts = compared(&Telling, 3, 1_000);
+    assert_eq!(counts.missing(1_000), None);
+}
+
+#[test]
+fn fast_calls_differ_nowhere() {
+    let counts = compared(&Fast, 3, 1_000);
     assert!(counts.numbers.iter().all(|&count| count > 10));
     assert!(counts.plain > 5_000 && counts.watched > 100);
     assert!(counts.rounds_confirmed > 100 && counts.legs_removed > 1_000);

@@ -1,44 +1,54 @@
 //! The fast calls against the plain ones on sequences of calls.
 
 use reference::gen::{any_table, damaged, Sheet, Xorshift};
-use reference::{Calls, End, Fast, LegTable, Plain, WorkState};
+use reference::{Calls, End, LegTable, Plain, WorkState};
 
-/// Makes one random call with both and hands back the state that follows.
-fn call_both(rng: &mut Xorshift, state: WorkState) -> WorkState {
+use crate::FAST;
+
+/// Makes one random call with all and hands back the state that follows.
+fn call_all(rng: &mut Xorshift, state: WorkState) -> WorkState {
     let n = state.n.clamp(1, 64) as usize;
     match rng.below(8) {
         0 => {
             let swept = Plain.sweep(state);
-            assert_eq!(Fast.sweep(state), swept);
+            for fast in FAST {
+                assert_eq!(fast.sweep(state), swept);
+            }
             swept.state
         }
         1 | 2 => {
             let chained = Plain.chain(state);
-            assert_eq!(Fast.chain(state), chained, "chain step on {state:?}");
+            for fast in FAST {
+                assert_eq!(fast.chain(state), chained, "chain step on {state:?}");
+            }
             chained.state
         }
         3..=5 => {
             let seed = rng.below(n + 2) as u64;
             let passed = Plain.pass(state, seed);
-            assert_eq!(Fast.pass(state, seed), passed, "seed {seed} on {state:?}");
+            for fast in FAST {
+                assert_eq!(fast.pass(state, seed), passed, "seed {seed} on {state:?}");
+            }
             passed.state
         }
         6 => {
             let budget = rng.below(2 * n) as u32;
             let ran = Plain.run(state, budget);
-            assert_eq!(Fast.run(state, budget), ran, "budget {budget} on {state:?}");
+            for fast in FAST {
+                assert_eq!(fast.run(state, budget), ran, "budget {budget} on {state:?}");
+            }
             ran.state
         }
         _ => {
-            list_both(rng, &state);
-            report_both(rng, &state);
-            write_both(rng, &state);
+            list_all(rng, &state);
+            report_all(rng, &state);
+            write_all(rng, &state);
             state
         }
     }
 }
 
-fn list_both(rng: &mut Xorshift, state: &WorkState) {
+fn list_all(rng: &mut Xorshift, state: &WorkState) {
     let n = state.n.clamp(1, 64) as usize;
     let mut list = vec![0; n];
     let order = rng.order(n);
@@ -49,26 +59,32 @@ fn list_both(rng: &mut Xorshift, state: &WorkState) {
         list[rng.below(n)] = rng.below(n + 2) as u8;
     }
     list.truncate(rng.pick(&[n, n, n, n - 1]));
-    assert_eq!(
-        Plain.list_check(state, &list),
-        Fast.list_check(state, &list)
-    );
+    let checked = Plain.list_check(state, &list);
+    for fast in FAST {
+        assert_eq!(fast.list_check(state, &list), checked);
+    }
 }
 
-fn report_both(rng: &mut Xorshift, state: &WorkState) {
+fn report_all(rng: &mut Xorshift, state: &WorkState) {
     let mut plain = vec![b'.'; rng.below(2_000)];
-    let mut fast = plain.clone();
+    let lent = plain.clone();
     let reported = Plain.report(state, &mut plain);
-    assert_eq!(Fast.report(state, &mut fast), reported);
-    assert_eq!(plain, fast);
+    for fast in FAST {
+        let mut buffer = lent.clone();
+        assert_eq!(fast.report(state, &mut buffer), reported);
+        assert_eq!(plain, buffer);
+    }
 }
 
-fn write_both(rng: &mut Xorshift, state: &WorkState) {
+fn write_all(rng: &mut Xorshift, state: &WorkState) {
     let mut plain = vec![b'.'; rng.below(600)];
-    let mut fast = plain.clone();
+    let lent = plain.clone();
     let written = Plain.write(state, &mut plain);
-    assert_eq!(Fast.write(state, &mut fast), written);
-    assert_eq!(plain, fast);
+    for fast in FAST {
+        let mut buffer = lent.clone();
+        assert_eq!(fast.write(state, &mut buffer), written);
+        assert_eq!(plain, buffer);
+    }
 }
 
 fn state_of(rng: &mut Xorshift, table: &LegTable) -> WorkState {
@@ -88,7 +104,7 @@ fn sequences(seed: u64, count: usize, least: usize, most: usize, calls: usize) {
         let table = any_table(&mut rng, n);
         let mut state = state_of(&mut rng, &table);
         for _ in 0..calls {
-            state = call_both(&mut rng, state);
+            state = call_all(&mut rng, state);
         }
     }
 }
@@ -121,9 +137,10 @@ fn damaged_states() {
             2 => state.place = rng.word() >> rng.below(64),
             _ => state.rows[rng.below(64)] ^= 1 << rng.below(64),
         }
-        assert_eq!(Plain.bad(&state), Fast.bad(&state));
-        if Plain.bad(&state) {
-            call_both(&mut rng, state);
+        let bad = Plain.bad(&state);
+        assert!(FAST.iter().all(|fast| fast.bad(&state) == bad));
+        if bad {
+            call_all(&mut rng, state);
         }
     }
 }
@@ -145,6 +162,9 @@ fn openings() {
             bytes[at] ^= 1 << rng.below(8);
         }
         let limit = rng.below(70) as u64;
-        assert_eq!(Plain.open(&bytes, limit), Fast.open(&bytes, limit));
+        let opened = Plain.open(&bytes, limit);
+        for fast in FAST {
+            assert_eq!(fast.open(&bytes, limit), opened);
+        }
     }
 }

@@ -9,7 +9,7 @@ use reference::pass::{pass_table, strike_by};
 use reference::rounds::rounds;
 use reference::{End, LegTable, WorkState};
 
-use crate::BOTH;
+use crate::ALL;
 
 /// A table of any family, or islands.
 fn table_or_islands(rng: &mut Xorshift, n: usize) -> LegTable {
@@ -166,7 +166,7 @@ fn hold_by_hand(table: &LegTable, seed: usize, limit: usize) {
         end: End::None,
         ..state
     };
-    for calls in BOTH {
+    for calls in ALL {
         let passed = calls.pass(state, seed as u64);
         assert_eq!((passed.number, passed.removed, passed.state), (0, 0, none));
     }

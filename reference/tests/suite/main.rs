@@ -8,10 +8,12 @@ mod chains;
 mod choices;
 mod compare;
 mod fast;
+mod idle;
 mod islands;
 mod neighbours;
 mod openings;
 mod other_pass;
+mod pivots;
 mod programs;
 mod scripts;
 mod soundness;
@@ -23,10 +25,13 @@ mod wall;
 mod written;
 mod yard;
 
-use reference::{Calls, Fast, LegTable, Plain, WorkState};
+use reference::{Calls, Fast, LegTable, Plain, Telling, WorkState};
 
-/// Both implementations, for what has to hold of each.
-const BOTH: [&dyn Calls; 2] = [&Plain, &Fast];
+/// All implementations, for what has to hold of each.
+const ALL: [&dyn Calls; 3] = [&Plain, &Fast, &Telling];
+
+/// Those over words of bits.
+const FAST: [&dyn Calls; 2] = [&Fast, &Telling];
 
 /// The state that a taken opening gives for a table.
 fn opened(table: &LegTable) -> WorkState {

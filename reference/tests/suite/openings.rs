@@ -3,7 +3,7 @@
 use reference::gen::{any_table, damaged, Record, Sheet, Xorshift};
 use reference::{LegTable, WorkState};
 
-use crate::{opened, BOTH};
+use crate::{opened, ALL};
 
 #[test]
 fn sheets_of_tables_open_to_them() {
@@ -12,7 +12,7 @@ fn sheets_of_tables_open_to_them() {
         let n = rng.between(2, 64);
         let table = any_table(&mut rng, n);
         for sheet in [Sheet::of(&table), Sheet::of_by_previous(&table)] {
-            for calls in BOTH {
+            for calls in ALL {
                 let answer = calls.open(&sheet.bytes(), 64);
                 assert_eq!((answer.number, answer.place), (0, 0));
                 assert_eq!(answer.state, opened(&table));
@@ -43,7 +43,7 @@ fn fields_combine_as_the_rule_says() {
                 table.add(i, j);
             }
         }
-        for calls in BOTH {
+        for calls in ALL {
             let answer = calls.open(&sheet.bytes(), 64);
             assert_eq!(answer.number, 0);
             assert_eq!(answer.state, opened(&table));
@@ -58,7 +58,7 @@ fn damaged_sheets_get_their_number_and_place() {
         let n = rng.between(2, 64);
         let sheet = Sheet::random(&mut rng, n);
         let damaged = damaged(&mut rng, &sheet, number);
-        for calls in BOTH {
+        for calls in ALL {
             let answer = calls.open(&damaged.bytes, 64);
             let expected = (damaged.number, damaged.place as u64);
             assert_eq!((answer.number, answer.place), expected);
@@ -73,7 +73,7 @@ fn every_cut_of_a_sheet_is_refused_at_its_end() {
     for n in [2, 3, 10, 64] {
         let bytes = Sheet::random(&mut rng, n).bytes();
         for length in 0..bytes.len() {
-            for calls in BOTH {
+            for calls in ALL {
                 let answer = calls.open(&bytes[..length], 64);
                 assert_eq!((answer.number, answer.place), (1, length as u64));
             }
@@ -83,7 +83,7 @@ fn every_cut_of_a_sheet_is_refused_at_its_end() {
 
 #[test]
 fn a_bad_limit_comes_before_any_fault_of_the_sheet() {
-    for calls in BOTH {
+    for calls in ALL {
         for sheet in [&[][..], &[1], &[3, 0x0C], &[3, 4, 0], &[2, 0, 0]] {
             for limit in [0, 65, 1 << 32, u64::MAX] {
                 let answer = calls.open(sheet, limit);
@@ -104,11 +104,11 @@ fn the_longest_sheet() {
     }
     let mut bytes = sheet.bytes();
     assert_eq!(bytes.len(), 1_153);
-    for calls in BOTH {
+    for calls in ALL {
         assert_eq!(calls.open(&bytes, 64).state.legs(), 63);
     }
     bytes.push(0);
-    for calls in BOTH {
+    for calls in ALL {
         let answer = calls.open(&bytes, 64);
         assert_eq!((answer.number, answer.place), (5, 1_153));
     }

@@ -14,10 +14,12 @@ fn compare(command: &[&str]) -> Output {
 }
 
 #[test]
-fn the_fast_program_differs_nowhere() {
-    let compared = compare(&[PROGRAM, "fast"]);
-    let text = String::from_utf8_lossy(&compared.stdout);
-    assert!(compared.status.success() && text.contains("; 0 differences"));
+fn the_fast_programs_differ_nowhere() {
+    for calls in ["fast", "telling"] {
+        let compared = compare(&[PROGRAM, calls]);
+        let text = String::from_utf8_lossy(&compared.stdout);
+        assert!(compared.status.success() && text.contains("; 0 differences"));
+    }
 }
 
 /// Shell commands with that program, each with a fault.

@@ -1,7 +1,7 @@
 //! The script format and the script of vectors.
 
 use reference::script::{play, Script};
-use reference::{vectors, Calls, Fast, Plain};
+use reference::{vectors, Calls, Fast, Plain, Telling};
 
 pub fn answers(calls: &impl Calls, script: &[u8]) -> Vec<u8> {
     let mut out = Vec::new();
@@ -99,6 +99,7 @@ fn vectors_are_answered_alike() {
     let script = vectors::script();
     let plain = answers(&Plain, script.bytes());
     assert!(plain == answers(&Fast, script.bytes()));
+    assert!(plain == answers(&Telling, script.bytes()));
     assert!(!plain.ends_with(b"stop\n"));
 }
 

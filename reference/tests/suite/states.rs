@@ -5,7 +5,7 @@ use reference::lines::station_lines;
 use reference::paper::{butterfly, NINE_LEGS};
 use reference::{open, Calls, End, LegTable, WorkState};
 
-use crate::{opened, removed_legs, BOTH};
+use crate::{opened, removed_legs, ALL};
 
 fn bad_states() -> Vec<WorkState> {
     let good = opened(&ring(5));
@@ -46,7 +46,7 @@ fn bad_states() -> Vec<WorkState> {
 
 #[test]
 fn bad_states_are_refused_as_they_are() {
-    for calls in BOTH {
+    for calls in ALL {
         for state in bad_states() {
             assert!(calls.bad(&state));
             for end in [End::Open, End::Stable, End::None] {
@@ -59,7 +59,7 @@ fn bad_states_are_refused_as_they_are() {
 /// The place after the chain step and n passes is the last one.
 #[test]
 fn places_up_to_the_last_are_good() {
-    for calls in BOTH {
+    for calls in ALL {
         for n in 2..=64 {
             let state = opened(&ring(n));
             for place in 0..=n as u64 + 1 {
@@ -104,7 +104,7 @@ fn assert_refused(calls: &dyn Calls, state: WorkState) {
 
 #[test]
 fn stray_seeds_are_refused_under_every_end() {
-    for calls in BOTH {
+    for calls in ALL {
         for end in [End::Open, End::Stable, End::None] {
             let state = WorkState {
                 end,
@@ -130,7 +130,7 @@ fn amid(table: &LegTable, end: End) -> WorkState {
 
 #[test]
 fn by_hand_without_effect() {
-    for calls in BOTH {
+    for calls in ALL {
         for end in [End::Open, End::Stable, End::None] {
             let state = amid(&ring(5), end);
             assert_eq!(calls.sweep(state).state, state);
@@ -143,7 +143,7 @@ fn by_hand_without_effect() {
 #[test]
 fn by_hand_with_legs_removed() {
     let table = open(&NINE_LEGS, 64).state.table();
-    for calls in BOTH {
+    for calls in ALL {
         for end in [End::Open, End::Stable] {
             let swept = calls.sweep(amid(&table, end));
             let rows = swept.state.rows;
@@ -175,7 +175,7 @@ fn by_hand_with_legs_removed() {
 
 #[test]
 fn by_hand_with_verdict_none() {
-    for calls in BOTH {
+    for calls in ALL {
         for end in [End::Open, End::Stable] {
             let state = amid(&butterfly(), end);
             let none = amid(&butterfly(), End::None);
@@ -201,7 +201,7 @@ fn legs_struck_before_none_stay_struck() {
     let mut none = before;
     none.rows[1] &= !(1 << 5);
     none.end = End::None;
-    for calls in BOTH {
+    for calls in ALL {
         let passed = calls.pass(before, 1);
         assert_eq!((passed.number, passed.removed, passed.state), (0, 1, none));
 
@@ -215,7 +215,7 @@ fn legs_struck_before_none_stay_struck() {
 #[test]
 fn legs_go_together_after_both_directions() {
     let table = choices_at_odds();
-    for calls in BOTH {
+    for calls in ALL {
         let before = opened(&table);
         let passed = calls.pass(before, 1);
         assert_eq!((passed.removed, passed.state.end), (2, End::Open));
@@ -234,7 +234,7 @@ fn legs_go_together_after_both_directions() {
 #[test]
 fn a_sweep_may_empty_rows_without_none() {
     let table = LegTable::from_legs(3, [(1, 3), (2, 3), (3, 1), (3, 2)]);
-    for calls in BOTH {
+    for calls in ALL {
         let first = calls.sweep(opened(&table));
         assert_eq!((first.removed, first.state.end), (4, End::Open));
         let second = calls.sweep(first.state);
@@ -244,7 +244,7 @@ fn a_sweep_may_empty_rows_without_none() {
 
 #[test]
 fn reports_fill_just_their_text() {
-    for calls in BOTH {
+    for calls in ALL {
         for n in [2, 9, 10, 11, 64] {
             for table in [LegTable::full(n), ring(n), LegTable::empty(n)] {
                 let text = station_lines(&table);

@@ -4,18 +4,18 @@ use reference::gen::{chain_among, loop_among, ring};
 use reference::paper::{butterfly, NINE_LEGS, NINE_LEGS_OUTPUT};
 use reference::{program, End, LegTable, WorkState};
 
-use crate::{opened, removed_legs, BOTH};
+use crate::{opened, removed_legs, ALL};
 
 #[test]
 fn program_on_the_nine_legs() {
-    for calls in BOTH {
+    for calls in ALL {
         assert_eq!(program::output(calls, &NINE_LEGS), NINE_LEGS_OUTPUT);
     }
 }
 
 #[test]
 fn program_on_a_table_without_round() {
-    for calls in BOTH {
+    for calls in ALL {
         let text = program::output(calls, &[2, 4, 1, 0]);
         assert_eq!(text, "stations 2 legs 1\nsteps 1 removed 0 end none\n");
     }
@@ -23,14 +23,14 @@ fn program_on_a_table_without_round() {
 
 #[test]
 fn program_on_a_refused_sheet() {
-    for calls in BOTH {
+    for calls in ALL {
         assert_eq!(program::output(calls, &[0x03, 0x0C]), "refused 3 at 1\n");
     }
 }
 
 #[test]
 fn nine_legs_one_sweep() {
-    for calls in BOTH {
+    for calls in ALL {
         let before = calls.open(&NINE_LEGS, 64).state;
         assert_eq!(before.legs(), 9);
         let swept = calls.sweep(before);
@@ -43,7 +43,7 @@ fn nine_legs_one_sweep() {
 
 #[test]
 fn nine_legs_pass_with_seed_4() {
-    for calls in BOTH {
+    for calls in ALL {
         let before = calls.open(&NINE_LEGS, 64).state;
         let passed = calls.pass(before, 4);
         assert_eq!((passed.number, passed.removed), (0, 2));
@@ -63,7 +63,7 @@ fn runs_on_short_sheets() {
         (&[2, 0, 0], 2, 4, End::Stable),
         (&[2, 4, 1, 0], 1, 1, End::None),
     ];
-    for calls in BOTH {
+    for calls in ALL {
         for (sheet, legs, steps, end) in cases {
             let state = calls.open(sheet, 64).state;
             let ran = calls.run(state, 300_000);
@@ -76,7 +76,7 @@ fn runs_on_short_sheets() {
 
 #[test]
 fn rings_lose_nothing() {
-    for calls in BOTH {
+    for calls in ALL {
         for n in 2..=64 {
             let state = opened(&ring(n));
             let passed = calls.pass(state, 1);
@@ -88,7 +88,7 @@ fn rings_lose_nothing() {
 
 #[test]
 fn butterfly_has_no_round() {
-    for calls in BOTH {
+    for calls in ALL {
         let state = opened(&butterfly());
         let none = WorkState {
             end: End::None,
@@ -106,7 +106,7 @@ fn butterfly_has_no_round() {
 /// thirty goes, and the loop itself is no round.
 #[test]
 fn loops_of_four_among_thirty() {
-    for calls in BOTH {
+    for calls in ALL {
         let before = opened(&chain_among(4, 30));
         let chained = calls.chain(before);
         assert_eq!((chained.number, chained.removed), (0, 1));
@@ -128,7 +128,7 @@ fn loops_of_four_among_thirty() {
 
 #[test]
 fn lists_on_all_legs_of_four() {
-    for calls in BOTH {
+    for calls in ALL {
         let state = opened(&LegTable::full(4));
         assert!(calls.list_check(&state, &[2, 3, 4, 1]).yes);
         assert!(!calls.list_check(&state, &[2, 1, 4, 3]).yes);
@@ -149,7 +149,7 @@ fn quoted_refusals() {
         (&[0x02, 0x01, 0x04], 1, 3),
         (&stray, 4, 2),
     ];
-    for calls in BOTH {
+    for calls in ALL {
         for (sheet, number, place) in cases {
             let answer = calls.open(sheet, 64);
             assert_eq!((answer.number, answer.place), (number, place));

@@ -9,7 +9,7 @@ use reference::state::last_place;
 use reference::written::WRITTEN_MOST;
 use reference::{Calls, End, LegTable, WorkState};
 
-use crate::{opened, BOTH};
+use crate::{opened, ALL};
 
 /// What is written of a state into a buffer that always suffices.
 fn written(calls: &dyn Calls, state: &WorkState) -> Vec<u8> {
@@ -21,7 +21,7 @@ fn written(calls: &dyn Calls, state: &WorkState) -> Vec<u8> {
 }
 
 fn assert_written(state: &WorkState, sheet: &[u8]) {
-    for calls in BOTH {
+    for calls in ALL {
         assert_eq!(written(calls, state), sheet);
     }
 }
@@ -86,7 +86,7 @@ fn sets_of_64_by_hand() {
 
 #[test]
 fn the_nine_legs_are_written_as_they_came() {
-    for calls in BOTH {
+    for calls in ALL {
         let state = calls.open(&NINE_LEGS, 64).state;
         assert_eq!(written(calls, &state), NINE_LEGS);
         let stable = calls.run(state, u32::MAX).state;
@@ -98,7 +98,7 @@ fn the_nine_legs_are_written_as_they_came() {
 /// All of these sheets differ, and each gives its table.
 #[test]
 fn each_small_table_has_a_sheet_of_its_own() {
-    for calls in BOTH {
+    for calls in ALL {
         let mut sheets = BTreeSet::new();
         let mut tables = 0;
         for table in (2..=4).flat_map(all_tables) {
@@ -133,7 +133,7 @@ fn made_up_tables_are_written_by_the_rule() {
             sheet.extend(record_by_rule(n, row));
         }
         assert_written(&opened(&table), &sheet);
-        for calls in BOTH {
+        for calls in ALL {
             assert_eq!(calls.open(&sheet, 64).state, opened(&table));
         }
     }
@@ -144,7 +144,7 @@ fn place_mark_end_and_limit_are_not_written() {
     let mut rng = Xorshift::new(42);
     for n in [2, 3, 9, 64] {
         let state = opened(&any_table(&mut rng, n));
-        for calls in BOTH {
+        for calls in ALL {
             let sheet = written(calls, &state);
             for end in [End::Open, End::Stable, End::None] {
                 for place in [0, 1, last_place(state.n)] {
@@ -174,7 +174,7 @@ fn sheets_fill_just_their_bytes() {
             any_table(&mut rng, n),
         ];
         for state in tables.iter().map(opened) {
-            for calls in BOTH {
+            for calls in ALL {
                 let sheet = written(calls, &state);
                 for room in 0..sheet.len() + 30 {
                     let mut buffer = vec![b'.'; room];

@@ -12,7 +12,7 @@ use reference::pass::strike_by;
 use reference::rounds::rounds;
 use reference::{End, LegTable};
 
-use crate::{opened, removed_legs, BOTH};
+use crate::{opened, removed_legs, ALL};
 
 fn stations(numbers: &[usize]) -> BTreeSet<usize> {
     numbers.iter().copied().collect()
@@ -29,7 +29,7 @@ fn filter_with(
 }
 
 fn assert_pass_keeps_all(table: &LegTable, seed: u64) {
-    for calls in BOTH {
+    for calls in ALL {
         let state = opened(table);
         let passed = calls.pass(state, seed);
         assert_eq!((passed.removed, passed.state), (0, state));
@@ -79,7 +79,7 @@ fn mark_on_a_pair_of_one_station() {
     assert_eq!(strike_by(&mut table, &graph), Verdict::Undecided);
     assert_eq!(removed_legs(&before, &opened(&table)), [(2, 3), (3, 2)]);
 
-    for calls in BOTH {
+    for calls in ALL {
         let passed = calls.pass(before, 1);
         assert_eq!((passed.removed, passed.state.end), (0, End::None));
         assert_eq!(passed.state.rows, before.rows);

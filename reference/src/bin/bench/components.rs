@@ -9,7 +9,7 @@ use reference::table::word_of;
 use reference::{fast, graph};
 
 use crate::shapes::{Input, Inputs};
-use crate::times::median_of;
+use crate::times::{medians, Repetition};
 use crate::SIZES;
 
 /// A call may take less time than reading the clock, so a repetition makes at
@@ -51,11 +51,14 @@ impl Work {
         }
     }
 
-    /// The median time for all levels together.
-    fn time(&self, components: impl Fn(&Rows, u64, &mut Rows) -> usize) -> f64 {
+    /// A repetition over all levels together.
+    fn repeated<'a>(
+        &'a self,
+        components: impl Fn(&Rows, u64, &mut Rows) -> usize + 'a,
+    ) -> Repetition<'a> {
         let rounds = FEWEST_CALLS.div_ceil(self.outside.len());
         let mut part = [0; 64];
-        median_of(|| {
+        Box::new(move || {
             let start = Instant::now();
             for _ in 0..rounds {
                 for &outside in &self.outside {
@@ -68,8 +71,7 @@ impl Work {
     }
 }
 
-/// Means over the tables of one shape and size. Without any inner level there
-/// are no times.
+/// Means over the tables of one shape and size.
 pub struct Times {
     /// Inner levels of a pass.
     pub levels: f64,
@@ -79,8 +81,6 @@ pub struct Times {
 }
 
 impl Times {
-    /// The two sides take turns table by table, so that none has the quieter
-    /// machine.
     fn of(inputs: &[Input]) -> Times {
         let (mut passes, mut levels) = (0.0, 0.0);
         let (mut proved, mut rust) = (0.0, 0.0);
@@ -90,8 +90,10 @@ impl Times {
             passes += input.state.n as f64;
             levels += work.outside.len() as f64;
             if !work.outside.is_empty() {
-                proved += work.time(measured::components);
-                rust += work.time(fast::components);
+                let calls = [measured::components, fast::components];
+                let medians = medians(&mut calls.map(|call| work.repeated(call)));
+                proved += medians[0];
+                rust += medians[1];
             }
         }
         Times {
@@ -103,20 +105,6 @@ impl Times {
 }
 
 /// The times of one shape, for each of the sizes.
-pub struct Row {
-    pub shape: &'static str,
-    pub by_size: [Times; SIZES.len()],
-}
-
-impl Row {
-    pub fn of(shape: &Inputs) -> Row {
-        Row {
-            shape: shape.name,
-            by_size: shape.by_size.each_ref().map(|inputs| Times::of(inputs)),
-        }
-    }
-
-    pub fn has_times(&self) -> bool {
-        self.by_size.iter().all(|times| times.levels > 0.0)
-    }
+pub fn times(shape: &Inputs) -> [Times; SIZES.len()] {
+    shape.by_size.each_ref().map(|inputs| Times::of(inputs))
 }

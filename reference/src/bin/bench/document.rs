@@ -4,61 +4,74 @@ use std::fs;
 
 use reference::fast;
 
-use crate::components;
+use crate::base::Base;
+use crate::markdown::{capital, print_by_shape, size_heads, unit};
 use crate::shapes::{Input, Inputs};
-use crate::share::Share;
-use crate::times::{Results, Row, Times};
-use crate::{REPETITIONS, SIZES, TABLES};
+use crate::times::{Results, Times, REPETITIONS};
+use crate::{bars, components, SIZES, TABLES};
 
 const HEAD: &str = "\
 # Benchmarks
 
-The proved library beside `reference/src/fast`, a hand-optimized Rust version over 64-bit words, in one process and on the same tables. All numbers are those of one call of
+The proved library beside two Rust versions over 64-bit words (`reference/src/fast`), in one process and on the same tables. The *plain* version works through every level of every pass. The *same algorithm* does what the library does: it keeps a word of passes known to change nothing, answers at once for a seed next to all other stations, and tells most other passes that change nothing by pivots. The two differ in passes and runs alone.
+
+All numbers come from one call of the last line, on MACHINE:
 
 ```
+git worktree add --detach ../base 6b2b745
+(cd ../base && rt staticlib loungeegret && rt staticlib measured)
+LOUNGEEGRET_LIB=$PWD/../base/target/staticlib cargo run --release --offline --features library --bin bench --manifest-path reference/Cargo.toml -- --times target/base.times
 rt staticlib loungeegret
 rt staticlib measured
-cargo run --release --offline --features library --bin bench --manifest-path reference/Cargo.toml > docs/BENCHMARKS.md
+cargo run --release --offline --features library --bin bench --manifest-path reference/Cargo.toml -- --base target/base.times > docs/BENCHMARKS.md
 ```
+
+The first three lines write the times of commit 6b2b745, *the base*: taken by the same program, on the same tables. Without `--base` the last line leaves out what is told against them.
 ";
 
 const NOTES: &str = "\
-- Both get the state in 69 lent words; the Rust version loads it from there and stores it back, and that is part of its time.
-- A write gets the words of the opened state and a lent buffer of 577 bytes, the length of the longest sheet that is written. The Rust version loads the state here too; neither side stores it back. All calls on a table get the same buffer, and it is not cleared between them.
-- The limit is 64. A run goes on until it is stable: only tables with this end are taken. The sheets that are opened have next sets, previous sets and fixed fields.
-- Before each repetition the words are copied in afresh, outside the time taken. Within it the caller clears no buffer; what a call clears of its own working space is part of its time, on both sides.
-- A band has its stations in a line, with legs one or two places on and one place back, and the round that goes up by the odd places and down by the even ones. A run strikes few of its legs in each of many cycles. A plain ring has one round and no other leg. One-way roads join the cells of a grid to their neighbours, each in one direction: that of a round over all cells where it comes along, else at random. The stations of all three are numbered at random.
-- Components are timed by themselves: all those outside one inner level, found by the function of `libmeasured.a` and by the loop that the pass of the Rust version uses. The words of the neighbours are gathered before, outside the time taken. A repetition goes over all inner levels from all seeds of a table, and over few of them as often as needed for 1,000 calls. The proved function writes all 64 words lent for components, the Rust version only those of the components it finds.";
+- All sides get the state in 69 lent words. The Rust versions load it from there and store it back, which is part of their time, as is what a call clears of its own working space. The words are copied in afresh before each repetition, outside the time taken.
+- The limit is 64. A run goes on until it is stable: only tables with this end are taken. The sheets that are opened have next sets, previous sets and fixed fields. A sheet is written into a lent buffer of 577 bytes, the length of the longest one.
+- *Growth* is the exponent with which a time grows with the number of stations from 16 to 64: the logarithm of the ratio of the times over that of 4.
 
-/// Times of the proved library and of the Rust version, for each of the sizes.
-type Pairs = [(f64, f64); SIZES.len()];
+## Tables
 
-pub fn print(
-    shapes: &[Inputs],
-    results: &[Results],
-    components: &[components::Row],
-    shares: &[Share],
-) {
-    println!("{HEAD}");
-    println!("on {}.\n", machine());
-    println!("- A time is the median of {REPETITIONS} repetitions, and the mean over {TABLES} tables; for a pass also over all seeds, for components over all inner levels from all seeds.");
+All stations are numbered at random. Two-way, each leg stands the other way too:
+
+- full: all legs
+- roads: points at random in a square, two joined if no other one lies in the circle that has their road as its diameter (a Gabriel graph)
+- clusters: groups of four to six stations in a line, neighbours sharing two; 60, 85 or 100 % of the roads inside them, and those of a round
+- ring with chords: n/2, n or 2n chords between stations two to six places apart
+- grid: cells joined to their neighbours
+
+One-way:
+
+- random: a round, and each leg with the same chance, so that a station has about 2, 3 or 4 legs, or 35 % of all
+- plain ring: a round and no other leg
+- ring with one-way chords: as above, each leg in one direction
+- one-way grid: each road in one direction, that of a round over all cells where it comes along
+- mixed grid: a third of the roads each in one direction, in the other and in both, and that round
+- band: stations in a line, legs one or two places on and one place back, and the round up by the odd places and down by the even ones
+
+All but roads have a round for certain. Of roads about one table in four ends stable, of 64 stations one in eight; tables are drawn until there are enough.";
+
+pub fn print(shapes: &[Inputs], results: &[Results], base: Option<&Base>) {
+    println!("{}", HEAD.replace("MACHINE", &machine()));
+    println!("- A time is the median of {REPETITIONS} repetitions, in which the sides take turns, and the mean over {TABLES} tables; for a pass also over all seeds.");
     println!("{NOTES}");
-    print_summary(results);
-    for call in results {
-        print_times(call);
-    }
-    print_components(components);
     print_runs(shapes);
-    print_shares(shares);
-    println!("\n## Highest ratios\n");
-    println!(
-        "- to the Rust version with lent words: {}",
-        highest(results, Times::ratio)
-    );
-    println!(
-        "- to the Rust version without: {}",
-        highest(results, |times| times.proved / times.direct)
-    );
+    for call in results {
+        print_times(shapes, call);
+    }
+    print_components(shapes);
+    if let Some(base) = base {
+        println!("\n## Times against the base\n");
+        println!("What a call of the library takes of its time in the base, for 8, 16, 32 and 64 stations. Both times are measured by the plain Rust version timed beside them, so that it does not count if the machine was busier one time.\n");
+        base.print(shapes, results);
+    }
+    println!("\n## Bars\n");
+    println!("The most that the library may take of the plain Rust version's time, and the highest ratio of all families.\n");
+    bars::print(results);
 }
 
 /// The processor's name and the number of its cores.
@@ -70,95 +83,13 @@ fn machine() -> String {
     format!("{}, {cores} cores", name.unwrap_or("an unknown processor"))
 }
 
-fn largest(row: &Row) -> &Times {
-    &row.by_size[SIZES.len() - 1]
-}
-
-fn print_summary(results: &[Results]) {
-    let heads: Vec<String> = results.iter().map(|r| r.call.name().into()).collect();
-    println!("\n## 64 stations\n");
-    println!("Time per call of the proved library, and in brackets its ratio to that of the Rust version. The last row has the least and the most that a single table takes.\n");
-    print_head("tables", &heads);
-    for (at, row) in results[0].rows.iter().enumerate() {
-        let cell = |call: &Results| {
-            let times = largest(&call.rows[at]);
-            format!("{} ({:.2})", unit(times.proved), times.ratio())
-        };
-        print_row(row.shape, &results.iter().map(cell).collect::<Vec<_>>());
-    }
-    print_row("range", &results.iter().map(range_cell).collect::<Vec<_>>());
-}
-
-fn range_cell(call: &Results) -> String {
-    let all = || call.rows.iter().map(largest);
-    let least = all().map(|times| times.least).fold(f64::INFINITY, f64::min);
-    let most = all().map(|times| times.most).fold(0.0, f64::max);
-    format!("{} to {}", unit(least), unit(most))
-}
-
-fn print_times(call: &Results) {
-    println!("\n## {}\n", capital(call.call.name()));
-    println!("Time per call of the proved library / of the Rust version = ratio.\n");
-    print_head("tables", &pair_heads());
-    let pair = |times: &Times| (times.proved, times.lent);
-    for row in &call.rows {
-        print_pairs(row.shape, row.by_size.each_ref().map(pair));
-    }
-}
-
-/// The inner levels of a pass, and the times for one of them.
-fn print_components(rows: &[components::Row]) {
-    println!("\n## Components\n");
-    println!(
-        "Inner levels of a pass, the mean over all seeds. Tables without any have no times.\n"
-    );
-    print_head("tables", &size_heads());
-    for row in rows {
-        let levels = row.by_size.each_ref().map(|times| times.levels);
-        print_row(row.shape, &levels.map(levels_cell));
-    }
-    println!("\nTime per call of the proved library / of the Rust version = ratio. A call finds all components outside one inner level.\n");
-    print_head("tables", &pair_heads());
-    let pair = |times: &components::Times| (times.proved, times.rust);
-    for row in rows.iter().filter(|row| row.has_times()) {
-        print_pairs(row.shape, row.by_size.each_ref().map(pair));
-    }
-}
-
-fn levels_cell(levels: f64) -> String {
-    if levels > 0.0 {
-        format!("{levels:.1}")
-    } else {
-        "–".into()
-    }
-}
-
-fn size_heads() -> [String; SIZES.len()] {
-    SIZES.map(|n| format!("{n} stations"))
-}
-
-fn pair_heads() -> Vec<String> {
-    let mut heads: Vec<String> = size_heads().into();
-    heads.push("growth 16 to 64".into());
-    heads
-}
-
-fn print_pairs(shape: &str, pairs: Pairs) {
-    let cell = |(proved, rust)| format!("{} / {} = {:.2}", unit(proved), unit(rust), proved / rust);
-    let mut cells: Vec<String> = pairs.map(cell).into();
-    let [_, from, _, to] = pairs;
-    cells.push(format!("{:.1} / {:.1}", to.0 / from.0, to.1 / from.1));
-    print_row(shape, &cells);
-}
-
 /// What the timed runs do: steps and removed legs.
 fn print_runs(shapes: &[Inputs]) {
-    println!("\n## Steps of a whole run, and legs that it removes of all\n");
-    print_head("tables", &size_heads());
-    for shape in shapes {
-        let cells = shape.by_size.each_ref().map(|inputs| run_cell(inputs));
-        print_row(shape.name, &cells);
-    }
+    println!("\nSteps of a whole run, and legs that it removes of all:\n");
+    print_by_shape(shapes, &size_heads(), |at| {
+        let by_size = shapes[at].by_size.iter();
+        by_size.map(|inputs| run_cell(inputs)).collect()
+    });
 }
 
 fn run_cell(inputs: &[Input]) -> String {
@@ -173,58 +104,63 @@ fn run_cell(inputs: &[Input]) -> String {
     format!("{} steps, {} of {}", mean(steps), mean(removed), mean(legs))
 }
 
-/// What the chain steps are of a whole run.
-fn print_shares(shares: &[Share]) {
-    let heads = ["chain steps of a run", "they take", "whole run", "share"];
-    println!("\n## Chain steps in a whole run, 64 stations\n");
-    println!("What a chain step takes is the time of a run of one step from the state before it, less that of a run of no step from there.\n");
-    print_head("tables", &heads.map(String::from));
-    for share in shares {
-        let cells = [
-            format!("{:.1}", share.steps),
-            unit(share.chain),
-            unit(share.run),
-            format!("{:.2} %", 100.0 * share.of_the_run()),
-        ];
-        print_row(share.shape, &cells);
-    }
-}
-
-/// The highest ratio and where it was found.
-fn highest(results: &[Results], ratio: fn(&Times) -> f64) -> String {
-    let mut found = (0.0, String::new());
-    for call in results {
-        for row in &call.rows {
-            for (times, n) in row.by_size.iter().zip(SIZES) {
-                if ratio(times) > found.0 {
-                    let place = format!("{}, {}, {n} stations", call.call.name(), row.shape);
-                    found = (ratio(times), place);
-                }
-            }
-        }
-    }
-    format!("{:.2} ({})", found.0, found.1)
-}
-
-fn print_head(first: &str, heads: &[String]) {
-    print_row(first, heads);
-    println!("|---|{}", "---|".repeat(heads.len()));
-}
-
-fn print_row(name: &str, cells: &[String]) {
-    println!("| {name} | {} |", cells.join(" | "));
-}
-
-fn capital(name: &str) -> String {
-    name[..1].to_uppercase() + &name[1..]
-}
-
-fn unit(nanoseconds: f64) -> String {
-    if nanoseconds < 1e3 {
-        format!("{nanoseconds:.0} ns")
-    } else if nanoseconds < 1e6 {
-        format!("{:.2} µs", nanoseconds / 1e3)
+fn print_times(shapes: &[Inputs], results: &Results) {
+    let two = results.call.in_two_versions();
+    println!("\n## {}\n", capital(results.call.name()));
+    if two {
+        println!("Time per call of the proved library, and in brackets its ratios to the same algorithm in Rust and to the plain version. Growth of the three.\n");
     } else {
-        format!("{:.2} ms", nanoseconds / 1e6)
+        println!("Time per call of the proved library, and in brackets its ratio to the Rust version. Growth of both.\n");
     }
+    let mut heads = size_heads();
+    heads.push("growth".into());
+    print_by_shape(shapes, &heads, |at| {
+        let by_size = &results.rows[at].by_size;
+        let mut cells: Vec<String> = by_size.iter().map(|times| cell(times, two)).collect();
+        cells.push(growth_cell(by_size, two));
+        cells
+    });
+}
+
+fn cell(times: &Times, two: bool) -> String {
+    let (time, plain) = (unit(times.proved), times.over_plain());
+    match two {
+        true => format!("{time} ({:.2}, {plain:.2})", times.over_same()),
+        false => format!("{time} ({plain:.2})"),
+    }
+}
+
+fn growth_cell(by_size: &[Times; SIZES.len()], two: bool) -> String {
+    let [_, from, _, to] = by_size;
+    let growth =
+        |time: fn(&Times) -> f64| format!("{:.1}", (time(to) / time(from)).ln() / 4_f64.ln());
+    let mut cells = vec![growth(|times| times.proved)];
+    if two {
+        cells.push(growth(|times| times.same));
+    }
+    cells.push(growth(|times| times.plain));
+    cells.join(", ")
+}
+
+/// The inner levels of a pass, and the times for one of them.
+fn print_components(shapes: &[Inputs]) {
+    println!("\n## Components\n");
+    println!("Inner levels of a pass, the mean over all seeds; the time in which the library finds the components outside one of them, and in brackets its ratio to the loop of the Rust versions. The words of the neighbours are gathered before.\n");
+    print_by_shape(shapes, &size_heads(), |at| {
+        components::times(&shapes[at])
+            .map(|times| components_cell(&times))
+            .into()
+    });
+}
+
+fn components_cell(times: &components::Times) -> String {
+    let components::Times {
+        levels,
+        proved,
+        rust,
+    } = times;
+    if *levels == 0.0 {
+        return "–".into();
+    }
+    format!("{levels:.1}; {} ({:.2})", unit(*proved), proved / rust)
 }

@@ -1,24 +1,58 @@
-//! Times the proved library beside the fast calls, in one process and on the
-//! same tables, and prints `docs/BENCHMARKS.md`.
+//! Times the proved library beside two Rust versions, in one process and on the
+//! same tables.
+//!
+//! `bench` prints `docs/BENCHMARKS.md`, with `--base FILE` also the times against
+//! those in the file. `bench --times FILE` writes the times to such a file.
 
+mod bars;
+mod base;
 mod components;
 mod document;
+mod markdown;
 mod shapes;
-mod share;
 mod sides;
 mod times;
 
+use std::{env, fs, process};
+
 use reference::gen::SHAPES;
+
+use self::base::Base;
+use self::shapes::Inputs;
+use self::times::{Results, Timed};
 
 const SIZES: [usize; 4] = [8, 16, 32, 64];
 const TABLES: usize = 6;
-const REPETITIONS: usize = 15;
 const LIMIT: usize = 64;
 
+const USAGE: &str = "usage: bench [--base FILE | --times FILE]";
+
 fn main() {
-    let shapes = SHAPES.map(shapes::Inputs::of);
-    let results = times::Timed::ALL.map(|call| times::Results::of(call, &shapes));
-    let shares: Vec<_> = shapes.iter().map(share::Share::of).collect();
-    let components: Vec<_> = shapes.iter().map(components::Row::of).collect();
-    document::print(&shapes, &results, &components, &shares);
+    let arguments: Vec<String> = env::args().skip(1).collect();
+    let arguments: Vec<&str> = arguments.iter().map(String::as_str).collect();
+    let done = match arguments[..] {
+        [] => print(None),
+        ["--base", file] => Base::read(file).and_then(|base| print(Some(&base))),
+        ["--times", file] => write(file),
+        _ => Err(USAGE.into()),
+    };
+    if let Err(message) = done {
+        eprintln!("bench: {message}");
+        process::exit(2);
+    }
+}
+
+fn timed(shapes: &[Inputs]) -> [Results; Timed::ALL.len()] {
+    Timed::ALL.map(|call| Results::of(call, shapes))
+}
+
+fn print(base: Option<&Base>) -> Result<(), String> {
+    let shapes = SHAPES.map(Inputs::of);
+    document::print(&shapes, &timed(&shapes), base);
+    Ok(())
+}
+
+fn write(file: &str) -> Result<(), String> {
+    let results = timed(&SHAPES.map(Inputs::of));
+    fs::write(file, base::lines(&results)).map_err(|fault| format!("{file}: {fault}"))
 }

@@ -1,6 +1,6 @@
 //! The tables that are timed.
 
-use reference::gen::{Shape, Sheet, Xorshift};
+use reference::gen::{Shape, Sheet, Ways, Xorshift};
 use reference::{fast, End, WorkState};
 
 use crate::sides::assert_same_work;
@@ -31,6 +31,7 @@ impl Input {
 /// The tables of one shape, for each of the sizes.
 pub struct Inputs {
     pub name: &'static str,
+    pub ways: Ways,
     pub by_size: [Vec<Input>; SIZES.len()],
 }
 
@@ -44,6 +45,7 @@ impl Inputs {
         };
         Inputs {
             name: shape.name,
+            ways: shape.ways,
             by_size: SIZES.map(&mut inputs),
         }
     }

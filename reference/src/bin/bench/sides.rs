@@ -1,171 +1,135 @@
-//! The implementations that are timed.
+//! The implementations that are timed, all on a state in lent words.
 
 use std::hint::black_box;
 use std::marker::PhantomData;
 
+use reference::fast::{self, Idle, Told, Untold};
 use reference::library::raw;
 use reference::words::{from_words, to_words, Words};
 use reference::written::WRITTEN_MOST;
-use reference::{fast, WorkState};
+use reference::WorkState;
 
 use crate::LIMIT;
 
 /// The timed calls of one implementation.
 pub trait Side {
-    type State: Clone;
-    fn lend(state: &WorkState) -> Self::State;
-    fn open(sheet: &[u8], state: &mut Self::State);
-    fn write(state: &Self::State, buffer: &mut [u8]);
-    fn sweep(state: &mut Self::State);
-    fn chain(state: &mut Self::State);
-    fn pass(state: &mut Self::State, seed: usize);
-    fn run(state: &mut Self::State);
+    fn open(sheet: &[u8], words: &mut Words);
+    fn write(words: &Words, buffer: &mut [u8]);
+    fn sweep(words: &mut Words);
+    fn chain(words: &mut Words);
+    fn pass(words: &mut Words, seed: usize);
+    fn run(words: &mut Words);
 }
 
 /// The proved library.
 pub struct Proved;
 
 impl Side for Proved {
-    type State = Words;
-
-    fn lend(state: &WorkState) -> Words {
-        to_words(state)
-    }
-
-    fn open(sheet: &[u8], state: &mut Words) {
+    fn open(sheet: &[u8], words: &mut Words) {
         let mut place = 0;
-        black_box(raw::open(sheet, LIMIT, state, &mut place));
+        black_box(raw::open(sheet, LIMIT, words, &mut place));
         black_box(place);
     }
 
-    fn write(state: &Words, buffer: &mut [u8]) {
+    fn write(words: &Words, buffer: &mut [u8]) {
         let mut length = 0;
-        black_box(raw::write(state, buffer, &mut length));
+        black_box(raw::write(words, buffer, &mut length));
         black_box(length);
     }
 
-    fn sweep(state: &mut Words) {
+    fn sweep(words: &mut Words) {
         let mut removed = 0;
-        black_box(raw::sweep(state, &mut removed));
+        black_box(raw::sweep(words, &mut removed));
         black_box(removed);
     }
 
-    fn chain(state: &mut Words) {
+    fn chain(words: &mut Words) {
         let mut removed = 0;
-        black_box(raw::chain(state, &mut removed));
+        black_box(raw::chain(words, &mut removed));
         black_box(removed);
     }
 
-    fn pass(state: &mut Words, seed: usize) {
+    fn pass(words: &mut Words, seed: usize) {
         let mut removed = 0;
-        black_box(raw::pass(state, seed, &mut removed));
+        black_box(raw::pass(words, seed, &mut removed));
         black_box(removed);
     }
 
-    fn run(state: &mut Words) {
+    fn run(words: &mut Words) {
         let (mut steps, mut removed) = (0, 0);
-        black_box(raw::run(state, u32::MAX, &mut steps, &mut removed));
+        black_box(raw::run(words, u32::MAX, &mut steps, &mut removed));
         black_box((steps, removed));
     }
 }
 
-/// The fast calls. Each works on a copy of the state, and one that changes it
+/// The calls in Rust. Each loads the state from the words, and one that changes it
 /// stores it back.
-pub struct Fast<K>(PhantomData<K>);
+pub struct Rust<I>(PhantomData<I>);
 
-/// The fast calls on a state in their own form.
-pub type Direct = Fast<WorkState>;
+/// Passes that change nothing are told as the library tells them.
+pub type Same = Rust<Told>;
 
-/// The fast calls on a state in lent words.
-pub type Lent = Fast<Words>;
+/// Every pass is worked through.
+pub type Plain = Rust<Untold>;
 
-/// What a state is kept in between fast calls.
-pub trait Kept: Clone {
-    fn store(state: &WorkState) -> Self;
-    fn load(&self) -> WorkState;
+#[inline]
+fn load(words: &Words) -> WorkState {
+    from_words(words).expect("words of a state")
 }
 
-impl Kept for WorkState {
-    #[inline]
-    fn store(state: &WorkState) -> WorkState {
-        *state
-    }
-
-    #[inline]
-    fn load(&self) -> WorkState {
-        *self
-    }
-}
-
-impl Kept for Words {
-    #[inline]
-    fn store(state: &WorkState) -> Words {
-        to_words(state)
-    }
-
-    #[inline]
-    fn load(&self) -> WorkState {
-        from_words(self).expect("words of a state")
-    }
-}
-
-impl<K: Kept> Side for Fast<K> {
-    type State = K;
-
-    fn lend(state: &WorkState) -> K {
-        K::store(state)
-    }
-
-    fn open(sheet: &[u8], state: &mut K) {
+impl<I: Idle> Side for Rust<I> {
+    fn open(sheet: &[u8], words: &mut Words) {
         let opened = fast::open(sheet, LIMIT as u64);
         black_box((opened.number, opened.place));
-        *state = K::store(&opened.state);
+        *words = to_words(&opened.state);
     }
 
-    fn write(state: &K, buffer: &mut [u8]) {
-        let written = fast::write(&state.load(), buffer);
+    fn write(words: &Words, buffer: &mut [u8]) {
+        let written = fast::write(&load(words), buffer);
         black_box((written.number, written.length));
     }
 
-    fn sweep(state: &mut K) {
-        let swept = fast::sweep(state.load());
+    fn sweep(words: &mut Words) {
+        let swept = fast::sweep(load(words));
         black_box((swept.number, swept.removed));
-        *state = K::store(&swept.state);
+        *words = to_words(&swept.state);
     }
 
-    fn chain(state: &mut K) {
-        let chained = fast::chain(state.load());
+    fn chain(words: &mut Words) {
+        let chained = fast::chain(load(words));
         black_box((chained.number, chained.removed));
-        *state = K::store(&chained.state);
+        *words = to_words(&chained.state);
     }
 
-    fn pass(state: &mut K, seed: usize) {
-        let passed = fast::pass(state.load(), seed as u64);
+    fn pass(words: &mut Words, seed: usize) {
+        let passed = fast::pass_by::<I>(load(words), seed as u64);
         black_box((passed.number, passed.removed));
-        *state = K::store(&passed.state);
+        *words = to_words(&passed.state);
     }
 
-    fn run(state: &mut K) {
-        let ran = fast::run(state.load(), u32::MAX);
+    fn run(words: &mut Words) {
+        let ran = fast::run_by::<I>(load(words), u32::MAX);
         black_box((ran.number, ran.steps, ran.removed));
-        *state = K::store(&ran.state);
+        *words = to_words(&ran.state);
     }
 }
 
 /// Times mean something only for the same work.
 pub fn assert_same_work(state: &WorkState) {
-    assert_eq!(written::<Proved>(state), written::<Lent>(state));
-    assert_eq!(stable::<Proved>(state), stable::<Lent>(state));
+    assert_eq!(written::<Proved>(state), written::<Plain>(state));
+    let stable = stable::<Plain>(state);
+    assert_eq!(self::stable::<Proved>(state), stable);
+    assert_eq!(self::stable::<Same>(state), stable);
 }
 
 fn written<S: Side>(state: &WorkState) -> [u8; WRITTEN_MOST] {
     let mut buffer = [0; WRITTEN_MOST];
-    S::write(&S::lend(state), &mut buffer);
+    S::write(&to_words(state), &mut buffer);
     buffer
 }
 
-fn stable<S: Side>(state: &WorkState) -> S::State {
-    let mut state = S::lend(state);
-    S::run(&mut state);
-    state
+fn stable<S: Side>(state: &WorkState) -> Words {
+    let mut words = to_words(state);
+    S::run(&mut words);
+    words
 }

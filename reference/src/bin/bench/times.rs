@@ -3,78 +3,90 @@
 use std::hint::black_box;
 use std::time::Instant;
 
+use reference::words::{to_words, Words};
 use reference::written::WRITTEN_MOST;
 
 use crate::shapes::{Input, Inputs};
-use crate::sides::{Direct, Lent, Proved, Side};
-use crate::{REPETITIONS, SIZES};
+use crate::sides::{Plain, Proved, Same, Side};
+use crate::SIZES;
+
+/// A time is a median of so many repetitions in all. The sides take turns, a few
+/// repetitions at a time, so that none has the quieter machine.
+const TURNS: usize = 3;
+const IN_A_TURN: usize = 5;
+pub const REPETITIONS: usize = TURNS * IN_A_TURN;
 
 /// Short calls in one repetition; a pass has each seed among them.
-pub const CALLS: usize = 64;
+const CALLS: usize = 64;
 
-#[derive(Clone, Copy)]
+#[derive(Clone, Copy, PartialEq, Eq)]
 pub enum Timed {
-    Open,
-    Write,
+    Run,
+    Pass,
     Sweep,
     Chain,
-    Pass,
-    Run,
+    Open,
+    Write,
 }
 
 impl Timed {
     pub const ALL: [Timed; 6] = [
-        Timed::Open,
-        Timed::Write,
+        Timed::Run,
+        Timed::Pass,
         Timed::Sweep,
         Timed::Chain,
-        Timed::Pass,
-        Timed::Run,
+        Timed::Open,
+        Timed::Write,
     ];
 
     pub fn name(self) -> &'static str {
         match self {
-            Timed::Open => "open",
-            Timed::Write => "write",
+            Timed::Run => "whole run",
+            Timed::Pass => "pass",
             Timed::Sweep => "sweep",
             Timed::Chain => "chain step",
-            Timed::Pass => "pass",
-            Timed::Run => "whole run",
+            Timed::Open => "open",
+            Timed::Write => "write",
         }
+    }
+
+    /// Whether the two Rust versions differ in this call.
+    pub fn in_two_versions(self) -> bool {
+        matches!(self, Timed::Run | Timed::Pass)
     }
 }
 
-/// Nanoseconds per call: means over the tables for the three ways of calling,
-/// and the least and the most that the proved library takes for one table.
-#[derive(Default)]
+/// Nanoseconds per call, means over the tables.
+#[derive(Clone, Copy, Default)]
 pub struct Times {
     pub proved: f64,
-    pub lent: f64,
-    pub direct: f64,
-    pub least: f64,
-    pub most: f64,
+    /// The same algorithm in Rust; 0 if there is only one Rust version of the call.
+    pub same: f64,
+    pub plain: f64,
 }
 
 impl Times {
-    pub fn ratio(&self) -> f64 {
-        self.proved / self.lent
+    pub fn over_same(&self) -> f64 {
+        self.proved / self.same
     }
 
-    /// The three ways take turns table by table, so that none has the quieter
-    /// machine.
+    pub fn over_plain(&self) -> f64 {
+        self.proved / self.plain
+    }
+
     fn of(call: Timed, inputs: &[Input]) -> Times {
-        let mut times = Times {
-            least: f64::INFINITY,
-            ..Times::default()
-        };
         let share = 1.0 / inputs.len() as f64;
+        let mut times = Times::default();
         for input in inputs {
-            let proved = time::<Proved>(call, input);
-            times.proved += proved * share;
-            times.lent += time::<Lent>(call, input) * share;
-            times.direct += time::<Direct>(call, input) * share;
-            times.least = times.least.min(proved);
-            times.most = times.most.max(proved);
+            let mut sides = vec![repeated::<Proved>(call, input)];
+            sides.push(repeated::<Plain>(call, input));
+            if call.in_two_versions() {
+                sides.push(repeated::<Same>(call, input));
+            }
+            let medians = medians(&mut sides);
+            times.proved += medians[0] * share;
+            times.plain += medians[1] * share;
+            times.same += medians.get(2).unwrap_or(&0.0) * share;
         }
         times
     }
@@ -94,44 +106,54 @@ pub struct Results {
 
 impl Results {
     pub fn of(call: Timed, shapes: &[Inputs]) -> Results {
+        let times = |inputs: &Vec<Input>| Times::of(call, inputs);
         let row = |shape: &Inputs| Row {
             shape: shape.name,
-            by_size: shape
-                .by_size
-                .each_ref()
-                .map(|inputs| Times::of(call, inputs)),
+            by_size: shape.by_size.each_ref().map(times),
         };
         Results {
             call,
             rows: shapes.iter().map(row).collect(),
         }
     }
-}
 
-fn time<S: Side>(call: Timed, input: &Input) -> f64 {
-    let state = S::lend(&input.state);
-    let n = input.state.n as usize;
-    let buffer = &mut [0; WRITTEN_MOST];
-    match call {
-        Timed::Open => median::<S>(&state, CALLS, |_, state| S::open(&input.sheet, state)),
-        Timed::Write => median::<S>(&state, CALLS, |_, state| S::write(state, black_box(buffer))),
-        Timed::Sweep => median::<S>(&state, CALLS, |_, state| S::sweep(state)),
-        Timed::Chain => median::<S>(&state, CALLS, |_, state| S::chain(state)),
-        Timed::Pass => median::<S>(&state, CALLS, |at, state| S::pass(state, at % n + 1)),
-        Timed::Run => median::<S>(&state, 4, |_, state| S::run(state)),
+    /// All times, each with its shape and the number of stations.
+    pub fn all(&self) -> impl Iterator<Item = (&'static str, usize, &Times)> {
+        self.rows.iter().flat_map(|row| {
+            let by_size = SIZES.iter().zip(&row.by_size);
+            by_size.map(|(&n, times)| (row.shape, n, times))
+        })
     }
 }
 
-/// The median time of a call. A repetition makes `count` calls, each on a copy
-/// of the state of its own.
-pub fn median<S: Side>(
-    state: &S::State,
+/// What makes one repetition and tells its time per call.
+pub type Repetition<'a> = Box<dyn FnMut() -> f64 + 'a>;
+
+fn repeated<S: Side>(call: Timed, input: &Input) -> Repetition<'_> {
+    let n = input.state.n as usize;
+    let words = to_words(&input.state);
+    let mut buffer = [0; WRITTEN_MOST];
+    match call {
+        Timed::Run => repeat(words, 2 * CALLS / n, |_, words| S::run(words)),
+        Timed::Pass => repeat(words, CALLS, move |at, words| S::pass(words, at % n + 1)),
+        Timed::Sweep => repeat(words, CALLS, |_, words| S::sweep(words)),
+        Timed::Chain => repeat(words, CALLS, |_, words| S::chain(words)),
+        Timed::Open => repeat(words, CALLS, |_, words| S::open(&input.sheet, words)),
+        Timed::Write => repeat(words, CALLS, move |_, words| {
+            S::write(words, black_box(&mut buffer))
+        }),
+    }
+}
+
+/// A repetition makes `count` calls, each on a copy of the words of its own.
+fn repeat<'a>(
+    words: Words,
     count: usize,
-    mut call: impl FnMut(usize, &mut S::State),
-) -> f64 {
-    let mut copies = vec![state.clone(); count];
-    median_of(|| {
-        copies.fill(state.clone());
+    mut call: impl FnMut(usize, &mut Words) + 'a,
+) -> Repetition<'a> {
+    let mut copies = vec![words; count];
+    Box::new(move || {
+        copies.fill(words);
         let start = Instant::now();
         for (at, copy) in copies.iter_mut().enumerate() {
             call(at, black_box(copy));
@@ -140,9 +162,31 @@ pub fn median<S: Side>(
     })
 }
 
-/// The median of what the repetitions tell.
-pub fn median_of(mut repetition: impl FnMut() -> f64) -> f64 {
-    let mut times = [(); REPETITIONS].map(|_| repetition());
-    times.sort_by(f64::total_cmp);
-    times[REPETITIONS / 2]
+/// The median time of each side.
+pub fn medians(sides: &mut [Repetition]) -> Vec<f64> {
+    let mut times = vec![Vec::new(); sides.len()];
+    for turn in 0..TURNS {
+        for (side, times) in sides.iter_mut().zip(&mut times) {
+            let in_turn = turn * IN_A_TURN..(turn + 1) * IN_A_TURN;
+            times.extend(in_turn.map(|depth| at_depth(depth, side)));
+        }
+    }
+    let median = |mut times: Vec<f64>| {
+        times.sort_by(f64::total_cmp);
+        times[REPETITIONS / 2]
+    };
+    times.into_iter().map(median).collect()
+}
+
+/// A repetition farther down the stack. By where their working space comes to lie,
+/// some calls take a fifth longer, and chance says where the stack begins.
+#[inline(never)]
+fn at_depth(depth: usize, repetition: &mut Repetition) -> f64 {
+    let room = black_box([0_u8; 200]);
+    let time = match depth {
+        0 => repetition(),
+        _ => at_depth(depth - 1, repetition),
+    };
+    black_box(room);
+    time
 }
