@@ -38,6 +38,12 @@ pub fn without_lone(own: u64, other: u64) -> u64 {
     }
 }
 
+/// The lowest station of a word that is not zero, as a set.
+#[inline]
+pub fn lowest_bit(word: u64) -> u64 {
+    word & word.wrapping_neg()
+}
+
 #[inline]
 pub fn indices(mut word: u64) -> impl Iterator<Item = usize> {
     std::iter::from_fn(move || {
