@@ -21,8 +21,7 @@ use Rattle.circuit.specs.inner.Tables.{Square}
 use Rattle.circuit.proofs.Iterate.{iter-swap}
 use Rattle.circuit.proofs.LegsLaws.{row-in, column-at, column-leg, columns-square, without-ext}
 use Rattle.filter.specs.Chain.{compulsory, compulsories, forked, nexts, along, joined, looped, closes}
-use Rattle.filter.specs.declared.chaining.Chains.{Chains}
-use Rattle.filter.specs.inner.Chains.{ChainsOf, ShortLoop}
+use Rattle.filter.specs.inner.Chains.{closed, ChainsOf, ShortLoop}
 use Rattle.filter.proofs.MateLaws.{Mates, mates-swap, early, same-start, turned, entered, walk-short, everywhere}
 use Rattle.filter.proofs.NextLaws.{joined-intro, joined-elim, next-at, next-leg, same-previous, leg-next}
 
@@ -174,9 +173,8 @@ module _ (n : ℕ) (m : List ℕ) (le : n ≤ 64) (sq : Square n m) (one : forke
           let k = joined-elim n p (pred (pred n)) b a e in
           into-is b lb ∙ lt-ltb (getD p b n) n (early (mates-swap pair) 1 (k .0) b (k .1) (subst (λ (x : ℕ). x < n) (sym (k .3)) la))
 
-  pub closing-table : (t : List ℕ) (r : Chains) → ChainsOf n p into ends r → without n t (leg (r .closing)) ≡ without n t (closes n m s)
-  unfolding leg
-  closing-table t r c = without-ext n t (leg (r .closing)) (closes n m s) (λ b a lb la. c .closing b a lb la ∙ sym (closes-turned b a lb la))
+  pub closing-table : (t words : List ℕ) (met : ℕ) → ChainsOf n p into ends words met → without n t (closed ends words) ≡ without n t (closes n m s)
+  closing-table t words met c = without-ext n t (closed ends words) (closes n m s) (λ b a lb la. c .closing b a lb la ∙ sym (closes-turned b a lb la))
 
   -- ---- loops
 
@@ -188,11 +186,11 @@ module _ (n : ℕ) (m : List ℕ) (le : n ≤ 64) (sq : Square n m) (one : forke
   is-end : (b : ℕ) → b < n → getD p b n < n → n ≤ getD s b n → has ends b ≡ true
   is-end b l i o = last b l ∙ and-intro (into-is b l ∙ lt-ltb (getD p b n) n i) (ap not (out-is b l ∙ le-ltb (getD s b n) n o))
 
-  module _ (r : Chains) (c : ChainsOf n p into ends r) (rest : ℕ) (others : (a : ℕ) → a < n → has rest a ≡ has into a && not (has (r .met) a)) where
+  module _ (words : List ℕ) (met : ℕ) (c : ChainsOf n p into ends words met) (rest : ℕ) (others : (a : ℕ) → a < n → has rest a ≡ has into a && not (has met a)) where
     abbrev chained : ℕ → ℕ → Bool
     chained a b = has ends b && joined n p (pred (pred n)) b a
 
-    met-is : (a : ℕ) → a < n → has (r .met) a ≡ true → Met pair a
+    met-is : (a : ℕ) → a < n → has met a ≡ true → Met pair a
     met-is a l e = ⊎-elim own far (or-cases (has ends a) (any n (chained a)) (sym (c .met a l) ∙ e))
       where
         own : has ends a ≡ true → Met pair a
@@ -205,7 +203,7 @@ module _ (n : ℕ) (m : List ℕ) (le : n ≤ 64) (sq : Square n m) (one : forke
             let k = joined-elim n p (pred (pred n)) (b .0) a (and-r (has ends (b .0)) (joined n p (pred (pred n)) (b .0) a) (b .2)) in
             record { end = b .0; steps = k .0; into = f .0; out = f .1; short = k .2; leads = k .3 }
 
-    is-met : (a : ℕ) → a < n → Met pair a → has (r .met) a ≡ true
+    is-met : (a : ℕ) → a < n → Met pair a → has met a ≡ true
     is-met a l h = c .met a l ∙ go (h .steps) (h .short) (h .leads)
       where
         low : h .end < n
@@ -222,13 +220,13 @@ module _ (n : ℕ) (m : List ℕ) (le : n ≤ 64) (sq : Square n m) (one : forke
     rest-left a l e =
         let h = sym (others a l) ∙ e in
         record {
-          into = ltb-true (getD p a n) n (sym (into-is a l) ∙ and-l (has into a) (not (has (r .met) a)) h);
-          unmet = λ q. not-both (is-met a l q) (not-true (has (r .met) a) (and-r (has into a) (not (has (r .met) a)) h));
+          into = ltb-true (getD p a n) n (sym (into-is a l) ∙ and-l (has into a) (not (has met a)) h);
+          unmet = λ q. not-both (is-met a l q) (not-true (has met a) (and-r (has into a) (not (has met a)) h));
         }
 
     left-rest : (a : ℕ) → a < n → Left pair a → has rest a ≡ true
     left-rest a l h =
-        others a l ∙ and-intro (into-is a l ∙ lt-ltb (getD p a n) n (h .into)) (ap not (is-false (has (r .met) a) (λ e. h .unmet (met-is a l e))))
+        others a l ∙ and-intro (into-is a l ∙ lt-ltb (getD p a n) n (h .into)) (ap not (is-false (has met a) (λ e. h .unmet (met-is a l e))))
 
     pub loop-none : ((a : ℕ) → a < n → has rest a ≡ false) → looped n s ≡ false
     unfolding looped

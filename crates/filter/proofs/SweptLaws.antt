@@ -1,10 +1,10 @@
 -- The words that `single_words` gathers of the rows say what the sweep's rule says of the rows and of the columns. Assumes nothing.
 use mathlib.Core.Path.{_≡_, refl, sym, ap, ap₂, _∙_}
 use mathlib.Core.Logic.{⊎-elim}
-use mathlib.Core.Bool.{Bool, true, false, not, cond, _&&_, _||_, and-true, and-false}
+use mathlib.Core.Bool.{Bool, true, false, not, cond, _&&_, _||_, and-false}
 use mathlib.Core.List.{List}
 use Prim.Native.Nat.{ℕ, _^_, _≤_, _<_}
-use native.Mathlib.Nat.{lt-of-lt-of-le, lt-trans}
+use native.Mathlib.Nat.{lt-of-lt-of-le}
 use native.Mathlib.Omega.{arith}
 use lib.Bits.{bitAnd, and-le-l}
 use lib.Dec.{eqb, ltb}
@@ -13,21 +13,20 @@ use lib.Pow.{pow-mono}
 use borrow.Author.Tests.{lt-ltb, le-ltb}
 use Rattle.bitset.specs.Sets.{has, any, setOf}
 use Rattle.bitset.specs.Upto.{upto, row}
-use Rattle.bitset.proofs.BoolLaws.{clash, not-both, is-false, cases, and-l, cond-true, cond-false, taut1, taut2}
-use Rattle.bitset.proofs.QuantLaws.{below?, any-intro, any-elim, any-ext, any-or}
+use Rattle.bitset.proofs.BoolLaws.{clash, cases, or-none, cond-true, cond-false, taut2}
+use Rattle.bitset.proofs.QuantLaws.{below?, any-intro, any-none, any-ext, any-or}
 use Rattle.bitset.proofs.HasLaws.{has-zero, has-above, has-and, ext}
-use Rattle.bitset.proofs.SetLaws.{has-setOf, word-has, setOf-lt, setOf-above, no-member}
-use Rattle.bitset.proofs.UptoLaws.{upto-of}
+use Rattle.bitset.proofs.SetLaws.{has-setOf, word-has, setOf-lt, setOf-above}
 use Rattle.circuit.specs.Legs.{columns, leg, col, tableOf, without}
 use Rattle.circuit.specs.State.{stray}
 use Rattle.circuit.specs.Verdict.{saysNone, leaves}
-use Rattle.circuit.proofs.LegsLaws.{column-at}
-use Rattle.circuit.proofs.StateLaws.{stray-row, stray-beyond}
+use Rattle.circuit.proofs.LegsLaws.{column-at, columns-square}
+use Rattle.circuit.proofs.StateLaws.{stray-row, stray-beyond, without-none}
 use Rattle.filter.specs.declared.singles.Singles.{Singles}
 use Rattle.filter.specs.inner.Singles.{single, only, two, soleIn, SinglesOf, keeps}
 use Rattle.filter.specs.Sweep.{stuck, nextTaken, prevTaken, swept, sweep}
-use Rattle.filter.proofs.SinglesLaws.{single-pow, only-bit, zero-single, zero-is, single-is, other-pair, other-once}
-use Rattle.filter.proofs.SoleLaws.{col-has, col-below, col-empty, col-single, unreached}
+use Rattle.filter.proofs.OneLaws.{single-pow, only-bit, twice-once, two-ext, zero-is, single-is, other-pair, other-once}
+use Rattle.filter.proofs.SoleLaws.{col-has, col-below, col-empty, col-single, unreached, row-many, col-many}
 
 -- ---- of a list of words: some other word than the one at i is the set of j alone
 
@@ -39,7 +38,7 @@ module _ (n : ℕ) (words : List ℕ) (fits : (k : ℕ) → k < n → getD words
   unfolding is
   only-is k l = single-pow 64 (getD words k 0) j (fits k l) lj
 
-  pub another : cond (single (getD words i 0)) (two n (only words j)) (any n (only words j)) ≡ any n (λ k. not (eqb k i) && eqb (getD words k 0) (2 ^ j))
+  another : cond (single (getD words i 0)) (two n (only words j)) (any n (only words j)) ≡ any n (λ k. not (eqb k i) && eqb (getD words k 0) (2 ^ j))
   unfolding is
   another = ⊎-elim alone more (cases (single (getD words i 0)))
     where
@@ -47,7 +46,7 @@ module _ (n : ℕ) (words : List ℕ) (fits : (k : ℕ) → k < n → getD words
           → cond (single (getD words i 0)) (two n (only words j)) (any n (only words j)) ≡ any n (λ k. not (eqb k i) && is k)
       alone e =
           cond-true _ _ e
-          ∙ any-ext n (λ k. only words j k && any k (only words j)) (λ k. is k && any k is) (λ k l. ap₂ (λ (a b : Bool). a && b) (only-is k l) (any-ext k (only words j) is (λ m h. only-is m (lt-trans h l))))
+          ∙ two-ext n (only words j) is only-is
           ∙ sym (other-pair n is i li (sym (only-is i li) ∙ ap (λ (w : ℕ). has w j) (cond-true (getD words i 0) 0 e) ∙ member))
 
       more : single (getD words i 0) ≡ false
@@ -57,10 +56,6 @@ module _ (n : ℕ) (words : List ℕ) (fits : (k : ℕ) → k < n → getD words
           ∙ sym (other-once n is i (sym (only-is i li) ∙ ap (λ (w : ℕ). has w j) (cond-false (getD words i 0) 0 e) ∙ has-zero j))
 
 -- ---- of a table
-
--- what two words share, one of them has
-twice-once : (n : ℕ) (p : ℕ → Bool) → two n p ≡ true → any n p ≡ true
-twice-once n p e = let f = any-elim n (λ k. p k && any k p) e in any-intro n p (f .0) (f .1) (and-l (p (f .0)) (any (f .0) p) (f .2))
 
 -- the test of `keeps` for the columns: some column, two columns, this column has the station alone
 by-column : (some pair here : Bool) → (pair ≡ true → some ≡ true) → (here ≡ true → some ≡ true) → cond (some && not pair) here (not some) ≡ not (cond here pair some)
@@ -74,7 +69,7 @@ by-column false false false p h = refl
 
 module _ (n : ℕ) (t : List ℕ) (le : n ≤ 64) (clean : stray n t ≡ false) (next : Singles) (gn : SinglesOf n t next) where
   -- some row or some column is empty
-  pub stuck-is : next .reached < 2 ^ 64 → next .empty || not (eqb (next .reached) (setOf 64 (λ j. ltb j n))) ≡ stuck n t
+  stuck-is : next .reached < 2 ^ 64 → next .empty || not (eqb (next .reached) (setOf 64 (λ j. ltb j n))) ≡ stuck n t
   unfolding stuck
   stuck-is fits =
       ap₂ (λ (a b : Bool). a || b) (gn .empty) (unreached n t le clean next gn fits ∙ sym (any-ext n (λ k. eqb (col n t k) 0) (λ k. not (has (next .reached) k)) (col-empty n t le clean next gn)))
@@ -107,8 +102,8 @@ module _ (n : ℕ) (t : List ℕ) (le : n ≤ 64) (clean : stray n t ≡ false) 
       own-has k l =
           let c = col n t k in
           has-and (row t i) sole k
-          ∙ ap₂ (λ (a b : Bool). a && b) (sym (col-has n t le clean next gn k i li)) (word-has 64 (soleIn next) alone k (lt-of-lt-of-le l le) ∙ col-single n t le clean next gn k l)
-          ∙ sym (only-bit n c i (col-below n t le clean next gn k) li) ∙ ap (λ (w : ℕ). eqb w (2 ^ i)) (sym (column-at n t le k l))
+          ∙ ap₂ (λ (a b : Bool). a && b) (sym (col-has n t k i li)) (word-has 64 (soleIn next) alone k (lt-of-lt-of-le l le) ∙ col-single n t le clean next gn k l)
+          ∙ sym (only-bit n c i (col-below n t k) li) ∙ ap (λ (w : ℕ). eqb w (2 ^ i)) (sym (column-at n t le k l))
 
       others : any n (λ k. not (eqb k j) && has own k) ≡ cond (has own j) (two n (has own)) (any n (has own))
       others =
@@ -147,24 +142,6 @@ module _ (n : ℕ) (t : List ℕ) (le : n ≤ 64) (clean : stray n t ≡ false) 
         beyond : (j : ℕ) → n ≤ j → has (row t i) j && keep j ≡ has (setOf n kept) j
         beyond j g = ap (λ (b : Bool). b && keep j) (has-above n (row t i) j (stray-row n t le clean i li) g) ∙ sym (setOf-above n kept j g)
 
-    -- where no station has one leg only, each row is left as it is
-    pub untouched-row : next .once ≡ 0 → sole ≡ 0 → (i : ℕ) → i < n → row t i ≡ setOf n (λ j. leg t i j && not (nextTaken n t i j || prevTaken n (columns n t) i j))
-    untouched-row none-out none-in i li = swept-row i (row t i) li (row-fits i li) (λ j l. sym (ap (λ (b : Bool). has (row t i) j && b) (all j l) ∙ and-true (has (row t i) j)))
-      where
-        none-once : (j : ℕ) → has (next .once) j ≡ false
-        none-once j = ap (λ (w : ℕ). has w j) none-out ∙ has-zero j
-
-        none-twice : (j : ℕ) → j < 64 → has (next .twice) j ≡ false
-        none-twice j l = is-false (has (next .twice) j) (λ e. not-both (gn .once j l ∙ twice-once n (only t j) (sym (gn .twice j l) ∙ e)) (none-once j))
-
-        own-none : bitAnd (row t i) sole ≡ 0
-        own-none = no-member (bitAnd (row t i) sole) (λ k. has-and (row t i) sole k ∙ ap (λ (w : ℕ). has (row t i) k && has w k) none-in ∙ ap (λ (b : Bool). has (row t i) k && b) (has-zero k) ∙ and-false (has (row t i) k))
-
-        all : (j : ℕ) → j < 64 → keeps next (bitAnd (row t i) sole) (row t i) j ≡ true
-        all j l =
-            ap (λ (w : ℕ). keeps next w (row t i) j) own-none
-            ∙ rw (none-once j, none-twice j l, zero-single) (taut1 (λ a. not (cond a false false) && true) (λ a. true) refl (single (row t i)))
-
 -- ---- the rows of the swept table
 
 pub sweptRow : ℕ → List ℕ → ℕ → ℕ
@@ -183,11 +160,26 @@ unfolding sweptRow
 swept-beyond n t e i g l = stray-beyond n t e i g l ∙ sym (cond-false _ 0 (le-ltb i n g))
 
 -- where no station has one leg only, no leg goes
-pub swept-same : (n : ℕ) (t : List ℕ) → n ≤ 64 → stray n t ≡ false → length t ≡ 64 → (next : Singles) → SinglesOf n t next → (sole : ℕ) → sole ≡ setOf 64 (soleIn next) → next .once ≡ 0 → sole ≡ 0 → t ≡ swept n t
-swept-same n t le clean len next gn sole alone none-out none-in =
-    upto-of 64 (sweptRow n t) 0 t len (λ i l. ⊎-elim
-    (λ (m : i < n). swept-in n t i (row t i) m (untouched-row n t le clean next gn sole alone none-out none-in i m)) (λ (g : n ≤ i). swept-beyond n t clean i g l) (below? i n))
-    ∙ swept-rows n t
+module _ (n : ℕ) (t : List ℕ) (le : n ≤ 64) (clean : stray n t ≡ false) (next : Singles) (gn : SinglesOf n t next) (sole : ℕ) (alone : sole ≡ setOf 64 (soleIn next)) (none-out : next .once ≡ 0) (none-in : sole ≡ 0) where
+  -- a word with no member or with more than one is no set of one
+  other-word : (w i : ℕ) → w < 2 ^ n → i < n → single w ≡ false → eqb w (2 ^ i) ≡ false
+  other-word w i h l e = only-bit n w i h l ∙ ap (λ (b : Bool). has w i && b) e ∙ and-false (has w i)
+
+  none-next : (i j : ℕ) → j < n → nextTaken n t i j ≡ false
+  unfolding nextTaken
+  none-next i j lj =
+      any-none n (λ k. not (eqb k i) && eqb (row t k) (2 ^ j)) (λ k l.
+      ap (λ (b : Bool). not (eqb k i) && b) (other-word (row t k) j (stray-row n t le clean k l) lj (row-many n t le clean next gn none-out k l)) ∙ and-false (not (eqb k i)))
+
+  none-prev : (i j : ℕ) → i < n → prevTaken n (columns n t) i j ≡ false
+  unfolding prevTaken
+  none-prev i j li =
+      any-none n (λ k. not (eqb k j) && eqb (row (columns n t) k) (2 ^ i)) (λ k l.
+      ap (λ (b : Bool). not (eqb k j) && b) (other-word (row (columns n t) k) i (columns-square n t le k l) li (col-many n t le clean next gn sole alone none-in k l)) ∙ and-false (not (eqb k j)))
+
+  pub swept-same : length t ≡ 64 → swept n t ≡ t
+  unfolding swept
+  swept-same len = without-none n t (λ i j. nextTaken n t i j || prevTaken n (columns n t) i j) le clean len (λ i j li lj. or-none (none-next i j lj) (none-prev i j li))
 
 -- ---- the verdict
 

@@ -1,59 +1,90 @@
-// The chain step on words: the compulsory legs out of each station and into each station, and walks against them from the ends of the chains.
+// The chain step on words: the compulsory legs by the stations that they enter, and walks against them from the ends of the chains. The columns are not read.
 use crate::rule::Taken;
+use crate::singles::is_single;
 use crate::singles::single_words;
 ghost use denote.Ref.{now};
-ghost use mathlib.Core.Bool.{false};
+ghost use mathlib.Core.Bool.{false, not, _||_};
+ghost use mathlib.Core.List.{List};
 ghost use mathlib.Core.Path.{_≡_};
-ghost use Prim.Native.Nat.{ℕ, _^_, _<_, _≤_};
-ghost use lib.ListN.{length};
+ghost use Prim.Native.Nat.{ℕ, _+_, _^_, _<_, _≤_};
+ghost use lib.Bits.{bitAnd};
+ghost use lib.Count.{ones};
+ghost use lib.Dec.{eqb, ltb};
+ghost use lib.ListN.{length, replicate};
 ghost use Rattle.bitset.specs.Sets.{setOf};
-ghost use Rattle.circuit.specs.Legs.{leg, without};
+ghost use Rattle.bitset.specs.Upto.{row};
+ghost use Rattle.circuit.specs.Legs.{columns, without};
 ghost use Rattle.circuit.specs.State.{stray};
-ghost use Rattle.circuit.specs.inner.Tables.{Square, Columned};
+ghost use Rattle.circuit.specs.inner.Tables.{Square};
 ghost use Rattle.filter.specs.Chain.{nexts, joined, chain};
-ghost use Rattle.filter.specs.inner.Chains.{compulsoryWord, CompulsoryOf, ChainsOf, ShortLoop};
+ghost use Rattle.filter.specs.inner.Chains.{compulsoryWord, compulsoryWords, CompulsoryOf, ChainsOf, ShortLoop, closed};
 ghost use Rattle.filter.specs.inner.Steps.{RowsLeft};
 
-// The compulsory legs of the stations on one side, out or in: those of each station, the stations that have some, and whether one has two.
+// Of the compulsory legs: the stations that one leaves, those that one enters, and whether two leave or enter one station.
 struct CompulsoryLegs {
-    legs: [u64; 64],
-    some: u64,
+    leave: u64,
+    enter: u64,
     forked: bool,
 }
 
-// What the walks against the legs find from the ends of the chains: the stations whose leg from the end closes its chain, and all that are met.
-struct Chains {
-    closing: [u64; 64],
-    met: u64,
-}
-
-// The compulsory legs of a word: its only leg, or those to a station that has no other; `once` has these stations.
-fn compulsory_word(word: u64, once: u64) -> u64
-    ensures { λ r. ⌜ r ≡ compulsoryWord word once ⌝ }
+// The compulsory legs of a row: its only leg, or those to a station that has no other leg in; `sole` has these stations.
+fn compulsory_word(word: u64, sole: u64) -> u64
+    ensures { λ r. ⌜ r ≡ compulsoryWord word sole ⌝ }
 {
-    if u64::count_ones(word) == 1 {
+    if is_single(word) {
         return word;
     }
-    word & once
+    word & sole
 }
 
-// The compulsory legs of the first n words.
-fn compulsory_legs(words: &[u64; 64], n: usize, once: u64) -> CompulsoryLegs
-    requires { ⌜ n ≤ 64 ⌝ }
-    ensures { λ r. ⌜ CompulsoryOf n (now (words .entry)) once r ⌝ }
+// Has the word two members, or one of the set?
+fn clashes(w: u64, set: u64) -> bool
+    ensures { λ r. ⌜ r ≡ ltb 1 (ones w) || not (eqb (bitAnd set w) 0) ⌝ }
 {
-    let mut legs = [0u64; 64];
-    let mut some = 0u64;
-    let mut forked = false;
+    if w == 0 {
+        return false;
+    }
+    (w & (w - 1) != 0) | (set & w != 0)
+}
+
+// Station i goes to the word of the station that its leg enters, if it has one: to the columns of the rows below i, row i joins.
+fn add_leg(legs: &mut [u64; 64], i: usize, w: u64)
+    requires { ⌜ (i < 64) × (length (now legs) ≡ 64) × (ones w ≤ 1) ⌝ }
+    ensures { λ _. ⌜ ((m : List ℕ) → row m i ≡ w → now (legs .entry) ≡ columns i m → now (legs .exit) ≡ columns (i + 1) m) ⌝ }
+{
+    if w != 0 {
+        let j = bitset::lowest(w) as usize;
+        legs[j] |= 1u64 << i;
+    }
+}
+
+// The compulsory legs of the first n rows, into `legs` by the stations that they enter. Ends at the first row whose legs clash with another.
+fn compulsory_legs(rows: &[u64; 64], n: usize, sole: u64, legs: &mut [u64; 64]) -> CompulsoryLegs
+    requires { ⌜ (n ≤ 64) × Square n (now rows) × (now legs ≡ replicate 64 0) ⌝ }
+    ensures { λ r. ⌜ CompulsoryOf n (compulsoryWords n (now (rows .entry)) sole) r (now (legs .exit)) ⌝ }
+{
+    let mut leave = 0u64;
+    let mut enter = 0u64;
     let mut i = 0usize;
     while i < n {
-        let w = compulsory_word(words[i], once);
-        legs[i] = w;
-        some = bitset::insert_if(some, i, w);
-        forked = forked | (1 < u64::count_ones(w));
+        let w = compulsory_word(rows[i], sole);
+        if clashes(w, enter) {
+            return CompulsoryLegs {
+                leave,
+                enter,
+                forked: true,
+            };
+        }
+        add_leg(legs, i, w);
+        leave = bitset::insert_if(leave, i, w);
+        enter |= w;
         i += 1;
     }
-    CompulsoryLegs { legs, some, forked }
+    CompulsoryLegs {
+        leave,
+        enter,
+        forked: false,
+    }
 }
 
 // The stations that 1 to `most` legs lead to from a, by the lowest leg of each. The code needs no n, so the promise is for any n.
@@ -76,12 +107,12 @@ fn joined_from(legs: &[u64; 64], most: usize, a: usize) -> u64
     met
 }
 
-// The chains, each from its end: `prev` has the legs into each station, and `into` the stations that have one.
-fn find_chains(prev: &[u64; 64], n: usize, into: u64, ends: u64) -> Chains
-    requires { ⌜ (2 ≤ n) × (n ≤ 64) × (ends < 2 ^ n) × Square n (now prev) ⌝ }
-    ensures { λ r. ⌜ ChainsOf n (nexts n (now (prev .entry))) into ends r ⌝ }
+// The chains, each from its end: `prev` has the legs into each station, and `into` the stations that have one. Where the chain is closed by a leg from
+// its end, `closing` gets the station that the leg enters. Answers all stations that are met.
+fn find_chains(prev: &[u64; 64], n: usize, into: u64, ends: u64, closing: &mut [u64; 64]) -> u64
+    requires { ⌜ (2 ≤ n) × (n ≤ 64) × (ends < 2 ^ n) × Square n (now prev) × (length (now closing) ≡ 64) ⌝ }
+    ensures { λ r. ⌜ ChainsOf n (nexts n (now (prev .entry))) into ends (now (closing .exit)) r ⌝ }
 {
-    let mut closing = [0u64; 64];
     let mut met = ends;
     let mut rest = ends;
     while rest != 0 {
@@ -91,7 +122,7 @@ fn find_chains(prev: &[u64; 64], n: usize, into: u64, ends: u64) -> Chains
         met |= chain;
         rest &= rest - 1;
     }
-    Chains { closing, met }
+    met
 }
 
 // Do legs close a loop over fewer than all stations? `rest` has the stations with a leg that no chain meets: they are on loops.
@@ -106,54 +137,56 @@ fn short_loop(prev: &[u64; 64], n: usize, rest: u64) -> bool
     bitset::contains(joined_from(prev, n - 1, a), a)
 }
 
-// Strikes the closing legs. Answers whether a leg went.
-fn strike_closing(rows: &mut [u64; 64], n: usize, closing: &[u64; 64]) -> bool
-    requires { ⌜ (n ≤ 64) × (length (now rows) ≡ 64) × (stray n (now rows) ≡ false) ⌝ }
-    ensures { λ r. ⌜ (now (rows .exit) ≡ without n (now (rows .entry)) (leg (now (closing .entry)))) × (r ≡ false → now (rows .exit) ≡ now (rows .entry)) ⌝ }
+// Strikes the closing legs, each out of an end. Answers whether a leg went. The code needs no n, so the promise is for any n.
+fn strike_closing(rows: &mut [u64; 64], ends: u64, closing: &[u64; 64]) -> bool
+    requires { ⌜ length (now rows) ≡ 64 ⌝ }
+    ensures { λ r. ⌜ ((n : ℕ) → n ≤ 64 → ends < 2 ^ n → stray n (now (rows .entry)) ≡ false → now (rows .exit) ≡ without n (now (rows .entry)) (closed ends (now (closing .entry))))
+        × (r ≡ false → now (rows .exit) ≡ now (rows .entry)) ⌝ }
 {
     let mut struck = false;
-    let mut i = 0usize;
-    while i < n {
-        let row = rows[i];
-        let left = bitset::difference(row, closing[i]);
+    let mut rest = ends;
+    while rest != 0 {
+        let b = u64::trailing_zeros(rest) as usize;
+        let row = rows[b];
+        let left = bitset::difference(row, closing[b]);
         struck = struck | (left != row);
-        rows[i] = left;
-        i += 1;
+        rows[b] = left;
+        rest &= rest - 1;
     }
     struck
 }
 
-// The chain step on the rows; the columns are stale where a leg went. Where no station has one leg only, no leg is compulsory.
-pub(crate) fn chain_rows(rows: &mut [u64; 64], cols: &[u64; 64], n: usize) -> Taken
-    requires { ⌜ (2 ≤ n) × (n ≤ 64) × Columned n (now rows) (now cols) ⌝ }
+// The chain step on the rows. Where no station has one leg only, no leg is compulsory.
+pub(crate) fn chain_rows(rows: &mut [u64; 64], n: usize) -> Taken
+    requires { ⌜ (2 ≤ n) × (n ≤ 64) × (length (now rows) ≡ 64) × (stray n (now rows) ≡ false) ⌝ }
     ensures { λ r. ⌜ RowsLeft n (chain n (now (rows .entry))) r (now (rows .entry)) (now (rows .exit)) ⌝ }
 {
     let next = single_words(rows, n);
     let sole = next.sole();
-    if (next.which == 0) & (sole == 0) {
+    if (next.once == 0) & (sole == 0) {
         return Taken {
             none: false,
             struck: false,
         };
     }
-    let out = compulsory_legs(rows, n, sole);
-    let into = compulsory_legs(cols, n, next.which);
-    if out.forked | into.forked {
+    let mut legs = [0u64; 64];
+    let compulsory = compulsory_legs(rows, n, sole, &mut legs);
+    if compulsory.forked {
         return Taken {
             none: true,
             struck: false,
         };
     }
-    let legs = into.legs;
-    let found = find_chains(&legs, n, into.some, into.some & !out.some);
-    if short_loop(&legs, n, into.some & !found.met) {
+    let ends = compulsory.enter & !compulsory.leave;
+    let mut closing = [0u64; 64];
+    let met = find_chains(&legs, n, compulsory.enter, ends, &mut closing);
+    if short_loop(&legs, n, compulsory.enter & !met) {
         return Taken {
             none: true,
             struck: false,
         };
     }
-    let closing = found.closing;
-    let struck = strike_closing(rows, n, &closing);
+    let struck = strike_closing(rows, ends, &closing);
     Taken {
         none: false,
         struck,

@@ -79,7 +79,7 @@ pub(crate) fn take_on(
             taken
         }
         Rule::Chain => {
-            let taken = chain_rows(rows, cols, n);
+            let taken = chain_rows(rows, n);
             renew(cols, rows, n, taken.struck);
             taken
         }
@@ -87,17 +87,14 @@ pub(crate) fn take_on(
     }
 }
 
-// The same on rows whose columns nobody has: a sweep needs none.
+// The same on the rows alone: only a pass needs the columns.
 pub(crate) fn take(rule: Rule, rows: &mut [u64; 64], n: usize, limit: usize) -> Taken
     requires { ⌜ (2 ≤ n) × (n ≤ 64) × (straySeed n rule ≡ false) × (length (now rows) ≡ 64) × (stray n (now rows) ≡ false) ⌝ }
     ensures { λ r. ⌜ RowsLeft n (says rule n (now (rows .entry)) limit) r (now (rows .entry)) (now (rows .exit)) ⌝ }
 {
     match rule {
         Rule::Sweep => sweep_rows(rows, n),
-        Rule::Chain => {
-            let cols = circuit::columns(rows, n);
-            chain_rows(rows, &cols, n)
-        }
+        Rule::Chain => chain_rows(rows, n),
         Rule::Pass(seed) => {
             let mut cols = circuit::columns(rows, n);
             pass_on(rows, &mut cols, n, limit, seed - 1)

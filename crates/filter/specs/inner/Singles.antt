@@ -4,41 +4,39 @@ use mathlib.Core.Bool.{Bool, not, cond, _&&_}
 use mathlib.Core.List.{List}
 use Prim.Native.Nat.{ℕ, _<_}
 use lib.Count.{ones}
-use lib.Dec.{eqb, ltb}
-use lib.ListN.{getD}
+use lib.Dec.{eqb}
 use Rattle.bitset.specs.Sets.{has, any}
+use Rattle.bitset.specs.Upto.{row}
 use Rattle.filter.specs.declared.singles.Singles.{Singles}
 
 -- the word has one member only
 abbrev pub single : ℕ → Bool
 single w = eqb (ones w) 1
 
--- the word at k has the member j
+-- row k has the member j
 abbrev pub holds : List ℕ → ℕ → ℕ → Bool
-holds words j k = has (getD words k 0) j
+holds t j k = has (row t k) j
 
--- the word at k has the member j and no other
+-- row k has the member j and no other
 abbrev pub only : List ℕ → ℕ → ℕ → Bool
-only words j k = has (cond (single (getD words k 0)) (getD words k 0) 0) j
+only t j k = has (cond (single (row t k)) (row t k) 0) j
 
 -- two numbers below n pass
 abbrev pub two : ℕ → (ℕ → Bool) → Bool
 two n p = any n (λ k. p k && any k p)
 
--- of the words below n
-pub record SinglesOf (n : ℕ) (words : List ℕ) (r : Singles) : Type 0 where
-  -- some word is empty
-  pub empty : r .empty ≡ any n (λ k. eqb (getD words k 0) 0)
-  -- the words with one member only
-  pub which : (k : ℕ) → k < 64 → has (r .which) k ≡ ltb k n && single (getD words k 0)
-  -- the members of some word, and of two words
-  pub reached : (j : ℕ) → j < 64 → has (r .reached) j ≡ any n (holds words j)
-  pub again : (j : ℕ) → j < 64 → has (r .again) j ≡ two n (holds words j)
-  -- the same of the words with one member only
-  pub once : (j : ℕ) → j < 64 → has (r .once) j ≡ any n (only words j)
-  pub twice : (j : ℕ) → j < 64 → has (r .twice) j ≡ two n (only words j)
+-- of the rows below n
+pub record SinglesOf (n : ℕ) (t : List ℕ) (r : Singles) : Type 0 where
+  -- some row is empty
+  pub empty : r .empty ≡ any n (λ k. eqb (row t k) 0)
+  -- the members of some row, and of two rows
+  pub reached : (j : ℕ) → j < 64 → has (r .reached) j ≡ any n (holds t j)
+  pub again : (j : ℕ) → j < 64 → has (r .again) j ≡ two n (holds t j)
+  -- the same of the rows with one member only
+  pub once : (j : ℕ) → j < 64 → has (r .once) j ≡ any n (only t j)
+  pub twice : (j : ℕ) → j < 64 → has (r .twice) j ≡ two n (only t j)
 
--- of the rows of a table: station j has one leg in
+-- station j has one leg in
 abbrev pub soleIn : Singles → ℕ → Bool
 soleIn r j = has (r .reached) j && not (has (r .again) j)
 

@@ -21,7 +21,7 @@ abbrev ways : ℕ → List ℕ → ℕ → ℕ → Bool
 ways n prev = joined n (nexts n prev) (pred (pred n))
 
 abbrev Inv-loop : tie.InvT-loop
-Inv-loop prev n into ends closing₀ met₀ rest₀ closing met rest = Finding n (ways n prev) into ends rest (record { closing = closing; met = met })
+Inv-loop prev n into ends closing₀ met₀ rest₀ closing met rest = Finding n (ways n prev) into ends rest closing met
 
 abbrev μ-loop : tie.MeasureT-loop
 μ-loop prev n into ends closing₀ met₀ rest₀ closing met rest = ones rest
@@ -34,7 +34,7 @@ low c =
     member-below (s .args .n) (v .rest) (trailingZeros 64 (v .rest)) (v .inv .rest-fits) (trailing-least 64 (v .rest) (omega arith) (wide (s .pre .1) (v .inv .rest-fits)) .member)
 
 loop-holds : tie.Need-loop-holds Inv-loop μ-loop
-loop-holds c = finding-start _ _ _ _ (c .pre .1) (c .pre .2)
+loop-holds c = finding-start _ _ _ _ (c .pre .1) _ (c .pre .4) (c .pre .2)
 
 cast-b : tie.Need-cast-b Inv-loop μ-loop
 cast-b c = omega (arith, low c, c .before .before .pre .1)
@@ -48,8 +48,8 @@ joined-from-requires c κs = lt-of-lt-of-le (low c) (c .before .before .pre .1)
 mul-closing : tie.Need-mul-closing Inv-loop μ-loop
 mul-closing c = omega (arith, low (c .before), c .before .before .before .pre .1)
 
-array-write-closing : tie.Need-array-write-closing Inv-loop μ-loop
-array-write-closing c = lt-of-lt-of-le (low (c .before)) (c .before .before .before .pre .1)
+element-write-closing : tie.Need-element-write-closing Inv-loop μ-loop
+element-write-closing c = lt-of-lt-of-le (low (c .before)) (c .before .before .before .pre .1)
 
 sub-rest : tie.Need-sub-rest Inv-loop μ-loop
 sub-rest c = search needs
@@ -67,14 +67,14 @@ loop-again c =
     let prev = s .args .prev .now in
     let b : ℕ = trailingZeros 64 (v .rest) in
     let most : n - 2 ≡ pred (pred n) = omega arith in
-    finding-turn n (ways n prev) _ _ (s .pre .1) (v .rest) (c .joined-from .result) _ (s .fits .into .fits) (omega arith)
+    finding-turn n (ways n prev) _ _ (s .pre .1) (v .rest) (c .joined-from .result) _ _ (s .fits .into .fits) (omega arith)
     (c .joined-from .ensures n (s .pre .1) (low (c .before)) (s .pre .3) ∙ ap (λ (f : ℕ). setOf n (joined n (nexts n prev) f b)) most) (v .inv)
 
 returns : tie.Need-returns Inv-loop μ-loop
 returns c =
     let s = c .before .before in
     let v = c .before .loop in
-    record { closing = found-closing _ _ _ _ (s .pre .1) _ _ (v .inv) (omega arith); met = found-met _ _ _ _ (s .pre .1) _ _ (v .inv) (omega arith) }
+    record { closing = found-closing _ _ _ _ (s .pre .1) _ _ _ (v .inv) (omega arith); met = found-met _ _ _ _ (s .pre .1) _ _ _ (v .inv) (omega arith) }
 
 pub find-chains-spec : {M : Type 1} → statement M
 find-chains-spec =
@@ -87,7 +87,7 @@ find-chains-spec =
     sub-joined-from
     joined-from-requires
     mul-closing
-    array-write-closing
+    element-write-closing
     sub-rest
     loop-less
     loop-again

@@ -3,7 +3,7 @@ use borrow.Author.Needs.{needs}
 use mathlib.Core.Path.{sym, ap, _∙_}
 use native.Mathlib.Omega.{arith}
 use Rattle.filter.specs.inner.Singles.{single}
-use Rattle.filter.proofs.SinglesLaws.{zero-single, single-test}
+use Rattle.filter.proofs.OneLaws.{zero-single, single-test}
 use Rattle.filter.proofs.singles.is_single.Statement.{statement}
 use Rattle.filter.proofs.singles.is_single.Tie as tie
 

@@ -14,7 +14,6 @@ use Rattle.bitset.proofs.UptoLaws.{length-upto}
 use Rattle.circuit.specs.declared.verdict.Verdict.{Verdict}
 use Rattle.circuit.specs.State.{stray}
 use Rattle.circuit.specs.Verdict.{saysNone, leaves}
-use Rattle.circuit.proofs.StateLaws.{stray-row}
 use Rattle.filter.specs.Sweep.{swept, sweep}
 use Rattle.filter.proofs.SweepLaws.{sweep-sound}
 use Rattle.filter.proofs.SweptLaws.{sweptRow, swept-rows, swept-same, sweep-none, sweep-left}
@@ -55,7 +54,7 @@ left c e =
     sweep-left (s .args .n) (s .args .rows .now) (s .pre .0) (s .pre .2) (next .result) (next .ensures) (reached-fits c) (c .full .result) (c .full .ensures) e
 
 single-words-requires : tie.Need-single-words-requires
-single-words-requires c κs = let s = c .before in (s .pre .0, stray-row (s .args .n) _ (s .pre .0) (s .pre .2))
+single-words-requires c κs = search needs
 
 full-requires : tie.Need-full-requires
 full-requires c κs = search needs
@@ -78,8 +77,8 @@ returns-2 c =
     let x = next .result .once in
     let y = o .sole .result in
     record {
-      verdict = left f (o .before .if1 .left) _ (swept-same (s .args .n) (s .args .rows .now) (s .pre .0) (s .pre .2) (s .pre .1) (next .result) (next .ensures) y (o .sole .ensures)
-          (eqb-true x 0 (and-l (eqb x 0) (eqb y 0) (c .if2 .taken))) (eqb-true y 0 (and-r (eqb x 0) (eqb y 0) (c .if2 .taken))));
+      verdict = left f (o .before .if1 .left) _ (sym (swept-same (s .args .n) (s .args .rows .now) (s .pre .0) (s .pre .2) (next .result) (next .ensures) y (o .sole .ensures)
+          (eqb-true x 0 (and-l (eqb x 0) (eqb y 0) (c .if2 .taken))) (eqb-true y 0 (and-r (eqb x 0) (eqb y 0) (c .if2 .taken))) (s .pre .1)));
       clean = s .pre .2;
       len = s .pre .1;
       same = λ _. refl;
