@@ -1,14 +1,13 @@
-// The leg table: its full one, its columns, its legs, and its stray legs.
+// The leg table: its full one, its legs, and its stray legs.
 ghost use denote.Ref.{now};
 ghost use mathlib.Core.Path.{_≡_};
-ghost use Prim.Native.Nat.{ℕ, _≤_, _<_};
+ghost use Prim.Native.Nat.{ℕ, _≤_};
 ghost use lib.Count.{ones};
-ghost use lib.ListN.{length};
 ghost use Rattle.bitset.specs.Sets.{sum};
-ghost use Rattle.bitset.specs.Upto.{upto, row};
-ghost use Rattle.circuit.specs.Legs.{columns, fullTable, capped};
+ghost use Rattle.bitset.specs.Upto.{row};
+ghost use Rattle.circuit.specs.Legs.{fullTable, capped, legs};
 ghost use Rattle.circuit.specs.State.{strayRow, stray};
-ghost use Rattle.circuit.specs.inner.Tables.{Square, fullRow, gaps, added, some, Tells};
+ghost use Rattle.circuit.specs.inner.Tables.{Square, fullRow, some, Tells};
 
 pub struct Table {
     pub rows: [u64; 64],
@@ -25,10 +24,13 @@ impl Table {
         ensures { λ r. ⌜ r .rows ≡ fullTable (capped n) ⌝ }
     {
         let stations = capped(n);
+        let all = bitset::full(stations);
+        let mut own = 1u64;
         let mut rows = [0u64; 64];
         let mut i = 0usize;
-        while i < Table::MAX {
-            rows[i] = full_row(stations, i);
+        while i < stations {
+            rows[i] = all & !own;
+            own <<= 1;
             i += 1;
         }
         Table { rows }
@@ -39,78 +41,6 @@ fn capped(n: usize) -> usize
     ensures { λ r. ⌜ r ≡ capped n ⌝ }
 {
     if n < Table::MAX { n } else { Table::MAX }
-}
-
-// Row i of the full table.
-fn full_row(n: usize, i: usize) -> u64
-    requires { ⌜ (n ≤ 64) × (i < 64) ⌝ }
-    ensures { λ r. ⌜ r ≡ fullRow n i ⌝ }
-{
-    if i < n {
-        bitset::full(n) & !(1u64 << i)
-    } else {
-        0
-    }
-}
-
-// Which stations have a leg into each station. A dense table has fewer gaps than legs: its columns are what the columns of its gaps leave open.
-pub fn columns(rows: &[u64; 64], n: usize) -> [u64; 64]
-    requires { ⌜ (n ≤ 64) × Square n (now rows) ⌝ }
-    ensures { λ r. ⌜ r ≡ columns n (now (rows .entry)) ⌝ }
-{
-    if looks_dense(rows, n) {
-        let missing = complements(rows, n);
-        let barred = columns_by_legs(&missing, n);
-        return complements(&barred, n);
-    }
-    columns_by_legs(rows, n)
-}
-
-// Only the cost depends on the answer, so one row is asked.
-fn looks_dense(rows: &[u64; 64], n: usize) -> bool {
-    n / 2 < row_legs(rows[0]) as usize
-}
-
-// Of each of the first n words, what it lacks of the numbers below n.
-fn complements(words: &[u64; 64], n: usize) -> [u64; 64]
-    requires { ⌜ n ≤ 64 ⌝ }
-    ensures { λ r. ⌜ r ≡ gaps n (now (words .entry)) ⌝ }
-{
-    let all = bitset::full(n);
-    let mut out = [0u64; 64];
-    let mut i = 0usize;
-    while i < n {
-        out[i] = bitset::difference(all, words[i]);
-        i += 1;
-    }
-    out
-}
-
-// One turn a leg.
-fn columns_by_legs(rows: &[u64; 64], n: usize) -> [u64; 64]
-    requires { ⌜ n ≤ 64 ⌝ }
-    ensures { λ r. ⌜ r ≡ columns n (now (rows .entry)) ⌝ }
-{
-    let mut cols = [0u64; 64];
-    let mut i = 0usize;
-    while i < n {
-        add_row(&mut cols, i, rows[i]);
-        i += 1;
-    }
-    cols
-}
-
-// Station i goes into the column of each station that may follow it; one turn a leg.
-fn add_row(cols: &mut [u64; 64], i: usize, legs: u64)
-    requires { ⌜ (i < 64) × (length (now cols) ≡ 64) ⌝ }
-    ensures { λ _. ⌜ now (cols .exit) ≡ upto 64 (added i legs (now (cols .entry))) ⌝ }
-{
-    let mut rest = legs;
-    while rest != 0 {
-        let j = u64::trailing_zeros(rest) as usize;
-        cols[j] |= 1u64 << i;
-        rest &= rest - 1;
-    }
 }
 
 // How many legs stand: the bits that are set. In a table without stray legs these are the legs of its n stations
@@ -125,6 +55,20 @@ pub fn legs(rows: &[u64; 64]) -> u32
         i += 1;
     }
     count
+}
+
+// The same from the rows of the n stations alone.
+pub fn legs_of(rows: &[u64; 64], n: usize) -> u32
+    requires { ⌜ (n ≤ 64) × Square n (now rows) ⌝ }
+    ensures { λ r. ⌜ (r ≡ legs n (now (rows .entry))) × (r ≤ 4096) ⌝ }
+{
+    let mut total = 0u32;
+    let mut i = 0usize;
+    while i < n {
+        total += row_legs(rows[i]);
+        i += 1;
+    }
+    total
 }
 
 // The bound is known of a word that is a parameter, and not of an element.

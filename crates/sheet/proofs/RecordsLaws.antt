@@ -8,14 +8,15 @@ use native.Mathlib.Omega.{arith}
 use lib.Bits.{and-le-l}
 use lib.Dec.{ltb}
 use lib.Pow.{pow-pos}
-use lib.ListN.{length, getD, take, drop, set, length-drop, length-append, length-set, drop-of-length-le}
-use lib.Seq.{drop-cons, drop-drop, take-suc-set}
+use lib.ListN.{length, getD, take, drop, set, replicate, getD-replicate, length-drop, length-append, length-set, drop-of-length-le}
+use lib.Seq.{drop-cons, drop-drop, getD-set-other, take-suc-set}
 use Rattle.circuit.specs.declared.card.Answer.{Answer}
 use Rattle.circuit.specs.declared.card.Answer.the-variants.{Overhang}
 use Rattle.bitset.specs.Sets.{setOf}
 use Rattle.bitset.proofs.MachineLaws.{full-setOf}
 use Rattle.circuit.specs.Legs.{tableOf}
 use Rattle.circuit.specs.inner.Tables.{Square}
+use Rattle.circuit.specs.inner.Columns.{Corner}
 use Rattle.sheet.specs.Layout.{Entry, free, Page, given}
 use Rattle.sheet.specs.Open.{Got, got, fault, _then_, readEntry, readEntries, readEnd, readRest, refused, taken, opened}
 use Rattle.sheet.specs.inner.Reader.{GotAt, FaultAt, nextOf, prevOf, legal}
@@ -75,10 +76,12 @@ pub record SoFar (n : ℕ) (s next barred : List ℕ) (at i : ℕ) : Type 0 wher
   pub lengths : (length next ≡ 64) × (length barred ≡ 64)
   pub follow : take i next ≡ map nextOf entries
   pub bars : take i barred ≡ map (barredOf n) entries
+  pub beyond : (k : ℕ) → i ≤ k → k < 64 → getD barred k 0 ≡ 0
 
-pub so-far-none : (n : ℕ) (s next barred : List ℕ) → 1 ≤ length s → length next ≡ 64 → length barred ≡ 64 → SoFar n s next barred 1 0
+pub so-far-none : (n : ℕ) (s next : List ℕ) → 1 ≤ length s → length next ≡ 64 → SoFar n s next (replicate 64 0) 1 0
 unfolding readEntries
-so-far-none n s next barred l e f = record { entries = []; count = refl; is = refl; within = l; lengths = (e, f); follow = refl; bars = refl }
+so-far-none n s next l e =
+    record { entries = []; count = refl; is = refl; within = l; lengths = (e, refl); follow = refl; bars = refl; beyond = λ k _ d. getD-replicate 64 k 0 0 d }
 
 -- the word of one record more
 store : (f : Entry → ℕ) (es : List Entry) (e : Entry) (l : List ℕ) (i v : ℕ) → i < length l → take i l ≡ map f es → v ≡ f e
@@ -97,6 +100,7 @@ module _ {n : ℕ} {s next barred : List ℕ} {at i : ℕ} (h : SoFar n s next b
         lengths = (length-set next i v ∙ h .lengths .0, length-set barred i w ∙ h .lengths .1);
         follow = store nextOf (h .entries) (p .value) next i v (omega (arith, h .lengths .0)) (h .follow) ev;
         bars = store (barredOf n) (h .entries) (p .value) barred i w (omega (arith, h .lengths .1)) (h .bars) ew;
+        beyond = λ k g d. getD-set-other barred i k w 0 (λ e. omega arith) ∙ h .beyond k (omega arith) d;
       }
 
   pub so-far-fault : {a : Answer} {k : ℕ} (limit : ℕ) → i < n → FaultAt (readEntry n (drop at s)) (drop at s) a k
@@ -113,13 +117,16 @@ module _ {n : ℕ} {s next barred : List ℕ} {at : ℕ} (limit : ℕ) (h : SoFa
   abbrev page : Page
   page = record { stations = n; entries = h .entries }
 
-  -- the barred stations are below n
-  pub so-far-square : n ≤ 64 → Square n barred
-  so-far-square le k l =
-      let all = setOf 64 (λ j. ltb j n) in
-      let e = getD (h .entries) k free in
-      let rest = (2 ^ 64 - 1) - prevOf e in
-      omega (arith, mapped-at (barredOf n) (h .entries) barred n (h .count) (h .bars) k l, and-le-l all rest, full-setOf 64 n le, pow-pos n)
+  -- the barred stations are below n, and barred by stations below n
+  pub so-far-corner : n ≤ 64 → Corner n barred
+  so-far-corner le = record { len = h .lengths .1; square = square; beyond = h .beyond }
+    where
+      square : Square n barred
+      square k l =
+          let all = setOf 64 (λ j. ltb j n) in
+          let e = getD (h .entries) k free in
+          let rest = (2 ^ 64 - 1) - prevOf e in
+          omega (arith, mapped-at (barredOf n) (h .entries) barred n (h .count) (h .bars) k l, and-le-l all rest, full-setOf 64 n le, pow-pos n)
 
   pub so-far-over : at < length s → opened (length s) limit (readRest n (drop 1 s)) ≡ refused Overhang at
   unfolding opened readEnd

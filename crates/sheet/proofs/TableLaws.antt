@@ -6,31 +6,26 @@ use mathlib.Core.List.{List, [], _∷_, map}
 use Prim.Native.Nat.{ℕ, zero, suc, _-_, _^_, _≤_, _<_}
 use native.Mathlib.Nat.{lt-of-lt-of-le, not-suc-le-zero, le-of-suc-le-suc}
 use native.Mathlib.Omega.{arith}
-use lib.Bits.{bitAnd, and-le-l}
+use lib.Bits.{bitAnd, and-le-l, and-zero-l}
 use lib.Dec.{eqb, ltb}
 use lib.ListN.{length, getD, take}
 use lib.Pow.{pow-mono}
 use lib.Seq.{getD-take}
 use borrow.Author.Tests.{lt-ltb, le-ltb}
 use Rattle.bitset.specs.Sets.{has, setOf}
-use Rattle.bitset.specs.Upto.{upto}
 use Rattle.bitset.proofs.BoolLaws.{cond-true, cond-false, taut3}
 use Rattle.bitset.proofs.QuantLaws.{below?}
 use Rattle.bitset.proofs.HasLaws.{has-and, has-not}
 use Rattle.bitset.proofs.SetLaws.{setOf-lt, has-setOf, eq-setOf}
-use Rattle.bitset.proofs.UptoLaws.{getD-upto}
+use Rattle.bitset.proofs.UptoLaws.{Changed, changed-end, getD-upto, upto-cong}
 use Rattle.circuit.specs.Legs.{columns, leg, col, tableOf, fullTable}
 use Rattle.circuit.proofs.LegsLaws.{row-in, row-out, tableOf-ext}
 use Rattle.sheet.specs.Layout.{Entry, Page, free, allows, fixes, entryAt, given}
 use Rattle.sheet.specs.inner.Reader.{nextOf, prevOf, legal}
 
 -- row i of the table
-abbrev pub legalRow : ℕ → List ℕ → List ℕ → ℕ → ℕ
+abbrev legalRow : ℕ → List ℕ → List ℕ → ℕ → ℕ
 legalRow n next barred i = cond (ltb i n) (setOf n (legal next barred i)) 0
-
-pub legal-rows : (n : ℕ) (next barred : List ℕ) → upto 64 (legalRow n next barred) ≡ tableOf n (legal next barred)
-unfolding tableOf
-legal-rows n next barred = refl
 
 module _ (n i : ℕ) (next barred : List ℕ) (le : n ≤ 64) (h : i < 64) where
   -- the stations that i may not come before
@@ -59,17 +54,33 @@ module _ (n i : ℕ) (next barred : List ℕ) (le : n ≤ 64) (h : i < 64) where
       ∙ ap₂ (λ (a b : Bool). a && b) (has-setOf n (λ j. not (eqb i j)) j k)
       (has-and (getD next i 0) ((2 ^ 64 - 1) - bars) j ∙ ap (λ (b : Bool). has (getD next i 0) j && b) (kept j k)))
 
-  -- `rows[i] & next[i] & !cols[i]`, from the row of the full table
-  pub row-is : bitAnd (getD (fullTable n) i 0) allowed ≡ legalRow n next barred i
+  row-is : bitAnd (getD (fullTable n) i 0) allowed ≡ legalRow n next barred i
   unfolding fullTable
   row-is =
       ⊎-elim
       (λ (l : i < n).
       ap (λ (w : ℕ). bitAnd w allowed) (row-in n (λ i j. not (eqb i j)) i le l) ∙ row-inside ∙ sym (cond-true (setOf n (legal next barred i)) 0 (lt-ltb i n l)))
       (λ (g : n ≤ i).
-      let none : bitAnd 0 allowed ≡ 0 = omega (arith, and-le-l 0 allowed) in
-      ap (λ (w : ℕ). bitAnd w allowed) (row-out n (λ i j. not (eqb i j)) i g) ∙ none ∙ sym (cond-false (setOf n (legal next barred i)) 0 (le-ltb i n g)))
+      ap (λ (w : ℕ). bitAnd w allowed) (row-out n (λ i j. not (eqb i j)) i g) ∙ and-zero-l allowed ∙ sym (cond-false (setOf n (legal next barred i)) 0 (le-ltb i n g)))
       (below? i n)
+
+-- `rows[i] & next[i] & !cols[i]`
+abbrev pub struckRow : List ℕ → List ℕ → List ℕ → ℕ → ℕ
+struckRow rows next cols i = bitAnd (getD rows i 0) (bitAnd (getD next i 0) ((2 ^ 64 - 1) - getD cols i 0))
+
+-- the first n rows of the full table, struck; those beyond are empty before and after
+pub struck : {full cols rows : List ℕ} {i : ℕ} (n : ℕ) (next barred : List ℕ) → n ≤ 64 → n ≤ i → full ≡ fullTable n → cols ≡ columns n barred
+    → Changed 64 (struckRow full next cols) full i rows → rows ≡ tableOf n (legal next barred)
+unfolding tableOf
+struck {full} {cols} n next barred le g ef ec h =
+    changed-end 0 h (λ k m l. rw ef (beyond k (omega arith)))
+    ∙ rw (ef, ec) (upto-cong 64 (struckRow (fullTable n) next (columns n barred)) (legalRow n next barred) (λ i l. row-is n i next barred le l))
+  where
+    beyond : (k : ℕ) → n ≤ k → getD (fullTable n) k 0 ≡ struckRow (fullTable n) next cols k
+    beyond k g = rw (full-beyond k g) (sym (and-zero-l (bitAnd (getD next k 0) ((2 ^ 64 - 1) - getD cols k 0))))
+      where
+        full-beyond : (k : ℕ) → n ≤ k → getD (fullTable n) k 0 ≡ 0
+        full-beyond k g = unfold fullTable in row-out n (λ i j. not (eqb i j)) k g
 
 -- ---- the words of a page
 

@@ -3,13 +3,12 @@ use mathlib.Core.Path.{_≡_}
 use mathlib.Core.Bool.{Bool, false, not, cond}
 use mathlib.Core.List.{List}
 use Prim.Native.Nat.{ℕ, _^_, _<_}
-use lib.Bits.{bitOr}
 use lib.Dec.{eqb, ltb}
 use lib.ListN.{length}
-use Rattle.bitset.specs.Sets.{has, setOf, any}
+use Rattle.bitset.specs.Sets.{setOf, any}
 use Rattle.bitset.specs.Upto.{row}
 use Rattle.circuit.specs.declared.verdict.Verdict.{Verdict}
-use Rattle.circuit.specs.Legs.{leg, columns, tableOf}
+use Rattle.circuit.specs.Legs.{columns}
 use Rattle.circuit.specs.State.{stray, strayRow}
 
 -- the first n words are sets of numbers below n
@@ -38,11 +37,3 @@ some w = not (eqb w 0)
 -- the word tells whether one of the first m rows is stray
 abbrev pub Tells : ℕ → List ℕ → ℕ → ℕ → Type 0
 Tells n t m w = some w ≡ any m (λ i. strayRow n i (row t i))
-
--- the legs between stations below n that do not stand
-unfoldable pub gaps : ℕ → List ℕ → List ℕ
-gaps n t = tableOf n (λ i j. not (leg t i j))
-
--- column j with station i added, where i's row has j
-unfoldable pub added : ℕ → ℕ → List ℕ → ℕ → ℕ
-added i legs cols j = cond (has legs j) (bitOr (row cols j) (2 ^ i)) (row cols j)

@@ -15,7 +15,7 @@ use Rattle.sheet.specs.declared.reader.Read.the-variants.{Whole, Fault}
 use Rattle.sheet.specs.Open.{readEntry}
 use Rattle.sheet.specs.inner.Reader.{IsRecord}
 use Rattle.sheet.proofs.ReaderLaws.{rest-of, record-told}
-use Rattle.sheet.proofs.RecordsLaws.{SoFar, so-far-none, so-far-more, so-far-fault, so-far-all, so-far-square, so-far-over, so-far-whole}
+use Rattle.sheet.proofs.RecordsLaws.{SoFar, so-far-none, so-far-more, so-far-fault, so-far-all, so-far-corner, so-far-over, so-far-whole}
 use Rattle.sheet.proofs.open_records.Statement.{statement}
 use Rattle.sheet.proofs.open_records.Tie as tie
 
@@ -82,7 +82,7 @@ all-read c = so-far-all (c .before .loop .inv .1) (omega arith)
 -- ---- the answers
 
 loop-holds : tie.Need-loop-holds Inv-loop μ-loop
-loop-holds c = (omega arith, so-far-none (c .before .args .n) (c .before .args .sheet .now) _ _ (c .before .pre .1) refl refl)
+loop-holds c = (omega arith, so-far-none (c .before .args .n) (c .before .args .sheet .now) _ (c .before .pre .1) refl)
 
 sub-read-record : tie.Need-sub-read-record Inv-loop μ-loop
 sub-read-record c = search needs
@@ -158,7 +158,7 @@ returns-2 c =
 table-of-requires : tie.Need-table-of-requires Inv-loop μ-loop
 table-of-requires c κs =
     let s = start (ended c .before) in
-    (s .pre .0, so-far-square (s .args .limit) (all-read (ended c)) (s .pre .0))
+    (s .pre .0, so-far-corner (s .args .limit) (all-read (ended c)) (s .pre .0))
 
 fresh-requires : tie.Need-fresh-requires Inv-loop μ-loop
 fresh-requires c κs = search needs
