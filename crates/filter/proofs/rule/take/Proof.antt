@@ -12,9 +12,9 @@ use Rattle.filter.proofs.rule.take.Tie as tie
 -- ---- places in the code
 
 abbrev told : tie.After-chain-rows → tie.After-enum-told2
-told c = c .before .before .before .before .before
+told c = c .before .before
 
-abbrev known : tie.After-cols2 → tie.After-rule
+abbrev known : tie.After-cols → tie.After-rule
 known c = c .before .before .before .before .before
 
 abbrev start : tie.After-rule → tie.Start
@@ -31,19 +31,14 @@ sweep-rows-requires c κs = let s = c .before .before .before in (s .pre .1, s .
 enum-told-2 : tie.Need-enum-told-2
 enum-told-2 c = search needs
 
-columns-requires : tie.Need-columns-requires
-columns-requires c κs = let s = c .before .before .before in (s .pre .1, stray-row _ _ (s .pre .1) (s .pre .4))
-
 chain-rows-requires : tie.Need-chain-rows-requires
-chain-rows-requires c κs =
-    let s = c .before .before .before .before .before .before in
-    (s .pre .0, s .pre .1, record { clean = s .pre .4; len = s .pre .3; columns = c .before .before .columns .ensures })
+chain-rows-requires c κs = let s = c .before .before .before in (s .pre .0, s .pre .1, s .pre .3, s .pre .4)
 
 enum-known-rule : tie.Need-enum-known-rule
 enum-known-rule c = search needs
 
-columns-requires-2 : tie.Need-columns-requires-2
-columns-requires-2 c κs = let s = c .before .before .before .before in (s .pre .1, stray-row _ _ (s .pre .1) (s .pre .4))
+columns-requires : tie.Need-columns-requires
+columns-requires c κs = let s = c .before .before .before .before in (s .pre .1, stray-row _ _ (s .pre .1) (s .pre .4))
 
 sub-pass-on : tie.Need-sub-pass-on
 sub-pass-on c = let k = known c in seed-least (start k .args .rule) _ (k .rule .given .1) (start k .args .n) (start k .pre .2)
@@ -52,7 +47,7 @@ pass-on-requires : tie.Need-pass-on-requires
 pass-on-requires c κs =
     let k = known c in
     let s = start k in
-    (s .pre .1, seed-index (s .args .rule) _ (k .rule .given .1) (s .args .n) (s .pre .2), record { clean = s .pre .4; len = s .pre .3; columns = c .before .before .columns2 .ensures })
+    (s .pre .1, seed-index (s .args .rule) _ (k .rule .given .1) (s .args .n) (s .pre .2), record { clean = s .pre .4; len = s .pre .3; columns = c .before .before .columns .ensures })
 
 returns : tie.Need-returns
 unfolding says
@@ -80,10 +75,9 @@ take-spec =
     enum-told
     sweep-rows-requires
     enum-told-2
-    columns-requires
     chain-rows-requires
     enum-known-rule
-    columns-requires-2
+    columns-requires
     sub-pass-on
     pass-on-requires
     returns

@@ -16,7 +16,7 @@ abbrev swept : tie.After-sweep-rows → tie.After-enum-told
 swept c = c .before .before
 
 abbrev chained : tie.After-chain-rows → tie.After-enum-told2
-chained c = c .before .before .before
+chained c = c .before .before
 
 abbrev known : tie.After-pass-on-arg2 → tie.After-rule
 known c = c .before .before .before
@@ -43,7 +43,7 @@ enum-told-2 : tie.Need-enum-told-2
 enum-told-2 c = search needs
 
 chain-rows-requires : tie.Need-chain-rows-requires
-chain-rows-requires c κs = let s = c .before .before .before .before in (s .pre .0, s .pre .1, s .pre .3)
+chain-rows-requires c κs = let s = c .before .before .before in (s .pre .0, s .pre .1, s .pre .3 .len, s .pre .3 .clean)
 
 renew-requires-2 : tie.Need-renew-requires-2
 renew-requires-2 c κs =
