@@ -156,7 +156,7 @@ fn strike_closing(rows: &mut [u64; 64], ends: u64, closing: &[u64; 64]) -> bool
     struck
 }
 
-// The chain step on the rows; columns of them are stale where a leg went. Where no station has one leg only, no leg is compulsory.
+// The chain step on the rows. Where no station has one leg only, no leg is compulsory.
 pub(crate) fn chain_rows(rows: &mut [u64; 64], n: usize) -> Taken
     requires { ⌜ (2 ≤ n) × (n ≤ 64) × (length (now rows) ≡ 64) × (stray n (now rows) ≡ false) ⌝ }
     ensures { λ r. ⌜ RowsLeft n (chain n (now (rows .entry))) r (now (rows .entry)) (now (rows .exit)) ⌝ }

@@ -1,33 +1,11 @@
-// How many legs stand, and how many went. Most steps strike nothing: then no leg is counted.
+// How many legs stand after a step, and how many went. Most steps strike nothing: then no leg is counted.
 ghost use denote.Ref.{now};
 ghost use mathlib.Core.Path.{_≡_};
 ghost use mathlib.Core.Bool.{false};
 ghost use Prim.Native.Nat.{_-_, _≤_};
-ghost use lib.Count.{ones};
 ghost use Rattle.circuit.specs.Legs.{legs, Subtable};
 ghost use Rattle.circuit.specs.State.{stray};
 ghost use Rattle.circuit.specs.inner.Tables.{Square};
-
-// The bound is known of a word that is a parameter, and not of an element.
-fn row_legs(row: u64) -> u32
-    ensures { λ r. ⌜ (r ≡ ones row) × (r ≤ 64) ⌝ }
-{
-    u64::count_ones(row)
-}
-
-// The legs of the first n rows.
-pub(crate) fn legs_of(rows: &[u64; 64], n: usize) -> u32
-    requires { ⌜ (n ≤ 64) × Square n (now rows) ⌝ }
-    ensures { λ r. ⌜ r ≡ legs n (now (rows .entry)) ⌝ }
-{
-    let mut count = 0u32;
-    let mut i = 0usize;
-    while i < n {
-        count += row_legs(rows[i]);
-        i += 1;
-    }
-    count
-}
 
 // The legs that stand after a step; `standing` of them stood before it.
 pub(crate) fn legs_after(struck: bool, standing: u32, rows: &[u64; 64], n: usize) -> u32
@@ -35,7 +13,7 @@ pub(crate) fn legs_after(struck: bool, standing: u32, rows: &[u64; 64], n: usize
     ensures { λ r. ⌜ r ≡ legs n (now (rows .entry)) ⌝ }
 {
     if struck {
-        return legs_of(rows, n);
+        return circuit::legs_of(rows, n);
     }
     standing
 }
@@ -47,7 +25,7 @@ pub(crate) fn removals(struck: bool, before: &[u64; 64], after: &[u64; 64], n: u
     ensures { λ r. ⌜ r ≡ legs n (now (before .entry)) - legs n (now (after .entry)) ⌝ }
 {
     if struck {
-        return legs_of(before, n) - legs_of(after, n);
+        return circuit::legs_of(before, n) - circuit::legs_of(after, n);
     }
     0
 }

@@ -1,6 +1,5 @@
 // The run: one step after the other, through the cycle of the places.
 use crate::counting::legs_after;
-use crate::counting::legs_of;
 use crate::rule::Rule;
 use crate::rule::Taken;
 use crate::rule::take_on;
@@ -134,7 +133,7 @@ fn run_from(rows: &mut [u64; 64], n: usize, limit: usize, from: Cursor, budget: 
     ensures { λ r. ⌜ ranAs n limit (now (rows .exit)) r ≡ runFrom budget (stateAt n (now (rows .entry)) limit from) ⌝ }
 {
     let mut cols = circuit::columns(rows, n);
-    let start = legs_of(rows, n);
+    let start = circuit::legs_of(rows, n);
     let mut standing = start;
     let mut idle = 0u64;
     let mut at = from;

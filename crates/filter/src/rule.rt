@@ -87,7 +87,7 @@ pub(crate) fn take_on(
     }
 }
 
-// The same on rows whose columns nobody has: only a pass needs them.
+// The same on the rows alone: only a pass needs the columns.
 pub(crate) fn take(rule: Rule, rows: &mut [u64; 64], n: usize, limit: usize) -> Taken
     requires { ⌜ (2 ≤ n) × (n ≤ 64) × (straySeed n rule ≡ false) × (length (now rows) ≡ 64) × (stray n (now rows) ≡ false) ⌝ }
     ensures { λ r. ⌜ RowsLeft n (says rule n (now (rows .entry)) limit) r (now (rows .entry)) (now (rows .exit)) ⌝ }

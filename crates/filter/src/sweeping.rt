@@ -57,7 +57,7 @@ fn sweep_words(rows: &mut [u64; 64], n: usize, next: Singles, sole: u64) -> bool
     struck
 }
 
-// The sweep on the rows; columns of them are stale where a leg went. Where no station has one leg only, none goes.
+// The sweep on the rows. Where no station has one leg only, no leg goes.
 pub(crate) fn sweep_rows(rows: &mut [u64; 64], n: usize) -> Taken
     requires { ⌜ (n ≤ 64) × (length (now rows) ≡ 64) × (stray n (now rows) ≡ false) ⌝ }
     ensures { λ r. ⌜ RowsLeft n (sweep n (now (rows .entry))) r (now (rows .entry)) (now (rows .exit)) ⌝ }

@@ -18,10 +18,10 @@ legs-of-requires-2 : tie.Need-legs-of-requires-2
 legs-of-requires-2 c κs = let s = c .before .before in (s .pre .0, stray-row _ _ (s .pre .0) (s .pre .2))
 
 sub-result : tie.Need-sub-result
-sub-result c = let s = start c in omega (arith, c .before .legs-of .ensures, c .legs-of2 .ensures, legs-le (s .args .n) _ _ (s .pre .3))
+sub-result c = let s = start c in omega (arith, c .before .legs-of .ensures .0, c .legs-of2 .ensures .0, legs-le (s .args .n) _ _ (s .pre .3))
 
 returns : tie.Need-returns
-returns c = ap₂ (λ (a b : ℕ). a - b) (c .before .legs-of .ensures) (c .legs-of2 .ensures)
+returns c = ap₂ (λ (a b : ℕ). a - b) (c .before .legs-of .ensures .0) (c .legs-of2 .ensures .0)
 
 -- the table stayed
 returns-2 : tie.Need-returns-2

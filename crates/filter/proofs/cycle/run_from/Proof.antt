@@ -70,8 +70,8 @@ loop-holds c =
         good = g;
         run = run-start (stateAt (s .args .n) (s .args .rows .now) (s .args .limit) (s .args .from)) g;
         table = record { clean = g .table; len = s .pre .1; columns = c .before .before .columns .ensures };
-        all = c .legs-of .ensures;
-        left = c .legs-of .ensures;
+        all = c .legs-of .ensures .0;
+        left = c .legs-of .ensures .0;
         known = idle-none (s .args .n) (s .args .limit) (s .args .rows .now);
       },
     )
