@@ -127,12 +127,14 @@ module _ (w : Work) (long : length (rowsOf w) ≡ 64) where
       let g = good w e in
       same-table (w .n) (rowsOf w) (rowsOf u) (g .most) (g .table) long (L .long long) (L .sub) (omega (arith, count, none))
 
-  pub hand-kept : (r : Rule) → handCall w r .removed ≡ 0 → rowsOf (handCall w r .work) ≡ rowsOf w
-  hand-kept r none =
-      ⊎-elim (λ e. ap (λ (c : Called). rowsOf (c .work)) (sym (call-bad w r e))) (λ e. kept (handCall w r .work) (handCall w r .removed) e (handCall-leads All w r) (hand-removed w r) none)
-      (cases (bad w))
+  pub hand-kept : (r : Rule) (c : Called) → c ≡ handCall w r → c .removed ≡ 0 → rowsOf (c .work) ≡ rowsOf w
+  hand-kept r c is none =
+      ap (λ (c : Called). rowsOf (c .work)) is
+      ∙ ⊎-elim (λ e. ap (λ (c : Called). rowsOf (c .work)) (sym (call-bad w r e)))
+      (λ e. kept (handCall w r .work) (handCall w r .removed) e (handCall-leads All w r) (hand-removed w r) (sym (ap (λ (c : Called). c .removed) is) ∙ none)) (cases (bad w))
 
-  pub run-kept : (budget : ℕ) → runCall w budget .removed ≡ 0 → rowsOf (runCall w budget .work) ≡ rowsOf w
-  run-kept budget none =
-      ⊎-elim (λ e. ap (λ (r : Ran). rowsOf (r .work)) (run-bad w budget e))
-      (λ e. kept (runCall w budget .work) (runCall w budget .removed) e (runCall-leads All w budget) (run-removed w budget) none) (cases (bad w))
+  pub run-kept : (budget : ℕ) (r : Ran) → r ≡ runCall w budget → r .removed ≡ 0 → rowsOf (r .work) ≡ rowsOf w
+  run-kept budget r is none =
+      ap (λ (r : Ran). rowsOf (r .work)) is
+      ∙ ⊎-elim (λ e. ap (λ (r : Ran). rowsOf (r .work)) (run-bad w budget e))
+      (λ e. kept (runCall w budget .work) (runCall w budget .removed) e (runCall-leads All w budget) (run-removed w budget) (sym (ap (λ (r : Ran). r .removed) is) ∙ none)) (cases (bad w))

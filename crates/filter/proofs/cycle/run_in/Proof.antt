@@ -1,11 +1,10 @@
 -- `filter::run_in` meets its contract.
 use borrow.Author.Needs.{needs}
-use mathlib.Core.Path.{_≡_, refl, sym, ap, _∙_}
+use mathlib.Core.Path.{_≡_, refl, sym, _∙_}
 use mathlib.Core.Bool.{false}
 use Rattle.circuit.specs.declared.state.Work.{Work}
-use Rattle.circuit.specs.State.{rowsOf, bad}
+use Rattle.circuit.specs.State.{bad}
 use Rattle.circuit.proofs.StateLaws.{good}
-use Rattle.filter.specs.declared.cycle.Ran.{Ran}
 use Rattle.filter.specs.inner.Steps.{stateAt}
 use Rattle.filter.proofs.RemovalLaws.{run-kept}
 use Rattle.filter.proofs.RunLaws.{run-bad, run-good, run-shut}
@@ -19,8 +18,11 @@ given s = stateAt (s .args .n) (s .args .rows .now) (s .args .limit) (s .args .f
 abbrev start : tie.After-is-bad-state → tie.Start
 start c = c .before .before
 
+told : (c : tie.After-is-bad-state) → c .is-bad-state .result ≡ bad (given (start c))
+told c = let from = start c .args .from in c .is-bad-state .ensures (from .mark) (from .end)
+
 not-bad : (c : tie.Else1) → bad (given (start (c .before))) ≡ false
-not-bad c = let from = start (c .before) .args .from in sym (c .before .is-bad-state .ensures (from .mark) (from .end)) ∙ c .if1 .left
+not-bad c = sym (told (c .before)) ∙ c .if1 .left
 
 is-bad-state-requires : tie.Need-is-bad-state-requires
 is-bad-state-requires c κs = search needs
@@ -28,8 +30,7 @@ is-bad-state-requires c κs = search needs
 returns : tie.Need-returns
 returns c =
     let s = start (c .before) in
-    let from = s .args .from in
-    (sym (run-bad (given s) (s .args .budget) (sym (c .before .is-bad-state .ensures (from .mark) (from .end)) ∙ c .if1 .taken)), λ _. refl)
+    (sym (run-bad (given s) (s .args .budget) (sym (told (c .before)) ∙ c .if1 .taken)), λ _. refl)
 
 is-open-requires : tie.Need-is-open-requires
 is-open-requires c κs = search needs
@@ -45,7 +46,7 @@ returns-2 c =
     let e = c .before .before .before .before in
     let s = start (e .before) in
     let is = c .run-from .ensures ∙ sym (run-good (given s) (s .args .budget) (not-bad e)) in
-    (is, λ none. ap (λ (r : Ran). rowsOf (r .work)) is ∙ run-kept (given s) (s .pre) (s .args .budget) (sym (ap (λ (r : Ran). r .removed) is) ∙ none))
+    (is, run-kept (given s) (s .pre) (s .args .budget) _ is)
 
 returns-3 : tie.Need-returns-3
 returns-3 c =

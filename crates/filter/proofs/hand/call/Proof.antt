@@ -1,7 +1,5 @@
 -- `filter::call` meets its contract.
 use borrow.Author.Needs.{needs}
-use mathlib.Core.Path.{ap, _∙_}
-use Rattle.circuit.specs.declared.state.Work.{Work}
 use Rattle.filter.proofs.hand.call.Statement.{statement}
 use Rattle.filter.proofs.hand.call.Tie as tie
 
@@ -12,10 +10,7 @@ moved-requires : tie.Need-moved-requires
 moved-requires c κs = search needs
 
 returns : tie.Need-returns
-returns c =
-    let called = c .before .before .call-in in
-    let r = called .result in
-    ap (λ (w : Work). record { answer = r .answer; work = w; removed = r .removed }) (c .moved .ensures) ∙ called .ensures .0
+returns c = rw (c .moved .ensures) (c .before .before .call-in .ensures .0)
 
 pub call-spec : {M : Type 1} → statement M
 call-spec = tie.close (tie.spec call-in-requires moved-requires returns)

@@ -3,9 +3,8 @@ use borrow.Author.Needs.{needs}
 use mathlib.Core.Path.{_≡_, refl, sym, ap, _∙_}
 use mathlib.Core.Bool.{false}
 use Rattle.circuit.specs.declared.state.Work.{Work}
-use Rattle.circuit.specs.State.{rowsOf, bad}
+use Rattle.circuit.specs.State.{bad}
 use Rattle.circuit.proofs.StateLaws.{good}
-use Rattle.filter.specs.declared.hand.Called.{Called}
 use Rattle.filter.specs.Rule.{straySeed}
 use Rattle.filter.specs.Calls.{verdict}
 use Rattle.filter.specs.inner.Steps.{stateAt, calledAs}
@@ -29,8 +28,11 @@ good-seed c = c .before .before
 abbrev given : tie.Start → Work
 given s = stateAt (s .args .n) (s .args .rows .now) (s .args .limit) (s .args .at)
 
+told : (c : tie.After-is-bad-state) → c .is-bad-state .result ≡ bad (given (start c))
+told c = let at = start c .args .at in c .is-bad-state .ensures (at .mark) (at .end)
+
 not-bad : (c : tie.Else1) → bad (given (start (c .before))) ≡ false
-not-bad c = let at = start (c .before) .args .at in sym (c .before .is-bad-state .ensures (at .mark) (at .end)) ∙ c .if1 .left
+not-bad c = sym (told (c .before)) ∙ c .if1 .left
 
 not-stray : (c : tie.Else2) → let a = start (good-state c .before) .args in straySeed (a .n) (a .rule) ≡ false
 not-stray c = sym (c .before .has-stray-seed .ensures) ∙ c .if2 .left
@@ -49,7 +51,7 @@ returns c =
     let s = start b in
     let a = s .args in (
       ap (calledAs (a .n) (a .limit) (a .rows .now)) (c .unmoved .ensures)
-          ∙ call-bad (given s) (a .rule) (sym (b .is-bad-state .ensures (a .at .mark) (a .at .end)) ∙ c .before .if1 .taken),
+          ∙ call-bad (given s) (a .rule) (sym (told b) ∙ c .before .if1 .taken),
       λ _. refl,
     )
 
@@ -99,7 +101,7 @@ returns-4 c =
     let e = good-seed (c .before .before) in
     let s = start (good-state e .before) in
     let is = c .by-hand .ensures ∙ call-good (given s) (s .args .rule) (not-bad (good-state e)) (not-stray e) in
-    (is, λ none. ap (λ (r : Called). rowsOf (r .work)) is ∙ hand-kept (given s) (s .pre) (s .args .rule) (sym (ap (λ (r : Called). r .removed) is) ∙ none))
+    (is, hand-kept (given s) (s .pre) (s .args .rule) _ is)
 
 pub call-in-spec : {M : Type 1} → statement M
 call-in-spec =
