@@ -20,7 +20,7 @@ use Rattle.idle.specs.inner.Idle.{Idle}
 use Rattle.separator.proofs.InnerLaws.{innerFrom, inner-start, inner-step, inner-end}
 use Rattle.filter.specs.Pass.{passOver}
 use Rattle.circuit.specs.inner.Tables.{Columned, TableTaken}
-use Rattle.filter.specs.declared.rule.Taken.{Taken}
+use Rattle.separator.specs.declared.Taken.{Taken}
 use Rattle.filter.specs.inner.Steps.{RowsLeft, TableLeft, limited}
 
 -- what was taken of a verdict was taken of an equal one

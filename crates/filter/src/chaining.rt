@@ -1,7 +1,7 @@
 // The chain step on words: the compulsory legs by the stations that they enter, and walks against them from the ends of the chains. The columns are not read.
-use crate::rule::Taken;
 use crate::singles::is_single;
 use crate::singles::single_words;
+use separator::Taken;
 ghost use denote.Ref.{now};
 ghost use mathlib.Core.Bool.{false, not, _||_};
 ghost use mathlib.Core.List.{List};

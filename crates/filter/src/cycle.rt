@@ -1,12 +1,12 @@
 // The run: one step after the other, through the cycle of the places.
 use crate::counting::legs_after;
 use crate::rule::Rule;
-use crate::rule::Taken;
 use crate::rule::take_on;
 use circuit::Answer;
 use circuit::End;
 use circuit::Table;
 use circuit::Work;
+use separator::Taken;
 ghost use denote.Ref.{now};
 ghost use mathlib.Core.Bool.{true, false};
 ghost use mathlib.Core.List.{List};

@@ -1,5 +1,5 @@
 // The pass with a seed: its levels, one after the other.
-use crate::rule::Taken;
+use separator::Taken;
 ghost use denote.Ref.{now};
 ghost use mathlib.Core.Bool.{true};
 ghost use mathlib.Core.Path.{_≡_};
@@ -30,11 +30,7 @@ fn take_level(
             struck: false,
         };
     }
-    let told = separator::strike(rows, cols, nbr, n, s);
-    Taken {
-        none: told.none,
-        struck: told.struck,
-    }
+    separator::strike(rows, cols, nbr, n, s)
 }
 
 // The levels 1 to m - 1, one after the other, each from the table as it then is; `nbr` has its neighbours.

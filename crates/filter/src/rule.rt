@@ -2,6 +2,7 @@
 use crate::chaining::chain_rows;
 use crate::passing::pass_on;
 use crate::sweeping::sweep_rows;
+use separator::Taken;
 ghost use denote.Ref.{now};
 ghost use mathlib.Core.Bool.{false};
 ghost use mathlib.Core.Path.{_≡_};
@@ -43,12 +44,6 @@ impl Rule {
         }
         Rule::Pass(place - 1)
     }
-}
-
-// What was taken of a rule: whether the verdict is none, and whether a leg may have gone.
-pub(crate) struct Taken {
-    pub(crate) none: bool,
-    pub(crate) struck: bool,
 }
 
 // Gathers the columns again, where a leg went since.

@@ -1,8 +1,8 @@
 // The sweep on words: what the stations with one leg only leave of each row. The columns are not read.
-use crate::rule::Taken;
 use crate::singles::Singles;
 use crate::singles::is_single;
 use crate::singles::single_words;
+use separator::Taken;
 ghost use denote.Ref.{now};
 ghost use mathlib.Core.Path.{_≡_};
 ghost use mathlib.Core.Bool.{false, cond, _&&_};

@@ -17,8 +17,8 @@ ghost use Rattle.circuit.specs.inner.Tables.{Columned, TableTaken};
 ghost use Rattle.separator.specs.Level.{level};
 ghost use Rattle.separator.specs.inner.Reach.{Linked};
 
-// What the rule of a level did: whether the verdict is none, and whether a leg may have gone.
-pub struct Struck {
+// What was taken of a rule, that of a level or a longer one: whether the verdict is none, and whether a leg may have gone.
+pub struct Taken {
     pub none: bool,
     pub struck: bool,
 }
@@ -31,7 +31,7 @@ pub fn strike(
     nbr: &mut [u64; 64],
     n: usize,
     s: u64,
-) -> Struck
+) -> Taken
     requires { ⌜ (s < 2 ^ n) × Columned n (now rows) (now cols) × Linked n (now rows) (now nbr) ⌝ }
     ensures { λ r. ⌜ TableTaken n (level n (now (rows .entry)) s) (r .none) (now (rows .exit)) (now (cols .exit))
         × Linked n (now (rows .exit)) (now (nbr .exit))
@@ -41,21 +41,21 @@ pub fn strike(
     let count = reach::components_of(nbr, bitset::full(n) & !s, &mut parts);
     let spares = level::spare_stations(rows, cols, s, &parts, count);
     if spares.none {
-        return Struck {
+        return Taken {
             none: true,
             struck: false,
         };
     }
     let struck = level::cut(rows, s, spares.out, spares.into);
     if !struck {
-        return Struck {
+        return Taken {
             none: false,
             struck: false,
         };
     }
     level::cut(cols, s, spares.into, spares.out);
     reach::neighbours(rows, cols, n, nbr);
-    Struck {
+    Taken {
         none: false,
         struck: true,
     }

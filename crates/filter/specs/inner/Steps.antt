@@ -18,7 +18,7 @@ use Rattle.filter.specs.declared.cycle.Ran.{Ran}
 use Rattle.filter.specs.declared.cycle.RanIn.{RanIn}
 use Rattle.filter.specs.declared.hand.Called.{Called}
 use Rattle.filter.specs.declared.hand.CalledIn.{CalledIn}
-use Rattle.filter.specs.declared.rule.Taken.{Taken}
+use Rattle.separator.specs.declared.Taken.{Taken}
 use Rattle.filter.specs.Pass.{pass}
 use Rattle.filter.specs.Calls.{gone, byHand, after}
 
