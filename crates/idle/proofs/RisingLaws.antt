@@ -25,8 +25,8 @@ PairsAt rows cols level seed tails heads k = (w : ℕ) × Spans level 0 k w × P
 
 -- `seen` has the levels below k
 pub record Rising (rows cols level : List ℕ) (seed : ℕ) (tails heads : List ℕ) (seen : ℕ) (ahead back : Led) (k : ℕ) : Type 0 where
-  pub wide-tails : length tails ≡ 34
-  pub wide-heads : length heads ≡ 34
+  pub wide-tails : length tails ≡ 32
+  pub wide-heads : length heads ≡ 32
   pub some : 1 ≤ k
   pub spans : Spans level 0 k seen
   pub leads : Reaches rows seen seed ahead
@@ -51,7 +51,7 @@ module _ {rows cols level : List ℕ} {seed : ℕ} {tails heads : List ℕ} {see
   pub rising-back : Reaches cols more seed back
   rising-back = reaches-wider (R .led) (part-or-l seen (row level k))
 
-  pub rising-turn : (t h : ℕ) (ahead′ back′ : Led) → k < 34 → Pairs rows cols seen (row level k) seed t h
+  pub rising-turn : (t h : ℕ) (ahead′ back′ : Led) → k < 32 → Pairs rows cols seen (row level k) seed t h
       → Reaches rows more seed ahead′ → Reaches cols more seed back′
       → Rising rows cols level seed (set tails k t) (set heads k h) more ahead′ back′ (k + 1)
   rising-turn t h ahead′ back′ l P A B =
@@ -65,7 +65,7 @@ module _ {rows cols level : List ℕ} {seed : ℕ} {tails heads : List ℕ} {see
         pairs = λ j a b. ⊎-elim (λ q. old j a q) (λ q. new j (omega arith)) (below? j k);
       }
     where
-      at-k : (ws : List ℕ) (x : ℕ) → length ws ≡ 34 → row (set ws k x) k ≡ x
+      at-k : (ws : List ℕ) (x : ℕ) → length ws ≡ 32 → row (set ws k x) k ≡ x
       at-k ws x e = getD-set-same ws k x 0 (omega (arith, e))
 
       new : (j : ℕ) → j ≡ k → PairsAt rows cols level seed (set tails k t) (set heads k h) j
@@ -87,7 +87,7 @@ module _ {rows cols level : List ℕ} {seed : ℕ} {tails heads : List ℕ} {see
           )
 
 -- the seed alone
-pub rising-start : {rows cols level : List ℕ} {seed : ℕ} {tails heads : List ℕ} {ahead back : Led} → length tails ≡ 34 → length heads ≡ 34 → row level 0 ≡ 2 ^ seed
+pub rising-start : {rows cols level : List ℕ} {seed : ℕ} {tails heads : List ℕ} {ahead back : Led} → length tails ≡ 32 → length heads ≡ 32 → row level 0 ≡ 2 ^ seed
     → LedFrom rows 0 (2 ^ seed) ahead → LedFrom cols 0 (2 ^ seed) back → Rising rows cols level seed tails heads (2 ^ seed) ahead back 1
 rising-start {seed = seed} wt wh e A B =
     record {

@@ -23,7 +23,7 @@ pub(crate) struct Grouped {
     pub(crate) left: u64,
 }
 
-// The groups lie in an array of words, five for each.
+// The groups lie in an array of words, five for each: there is place for 32.
 pub(crate) fn group_at(groups: &[u64; 160], g: usize) -> Group
     requires { ⌜ g < 32 ⌝ }
     ensures { λ r. ⌜ r ≡ groupAt (now (groups .entry)) g ⌝ }

@@ -73,11 +73,11 @@ fn rise(
     seed: usize,
     level: &[u64; 64],
     count: usize,
-    tails: &mut [u64; 34],
-    heads: &mut [u64; 34],
+    tails: &mut [u64; 32],
+    heads: &mut [u64; 32],
 ) -> bool
-    requires { ⌜ (n ≤ 64) × (seed < 64) × (2 ≤ count) × (count ≤ 33) × (row (now level) 0 ≡ 2 ^ seed) × (length (now tails) ≡ 34) × (length (now heads) ≡ 34) ⌝ }
-    ensures { λ r. ⌜ (length (now (tails .exit)) ≡ 34) × (length (now (heads .exit)) ≡ 34)
+    requires { ⌜ (n ≤ 64) × (seed < 64) × (2 ≤ count) × (count ≤ 33) × (row (now level) 0 ≡ 2 ^ seed) × (length (now tails) ≡ 32) × (length (now heads) ≡ 32) ⌝ }
+    ensures { λ r. ⌜ (length (now (tails .exit)) ≡ 32) × (length (now (heads .exit)) ≡ 32)
         × ((k : ℕ) → 1 ≤ k → k + 1 < count → (w : ℕ) × Spans (now (level .entry)) 0 k w
         × Pairs (now (rows .entry)) (now (cols .entry)) w (row (now (level .entry)) k) seed (row (now (tails .exit)) k) (row (now (heads .exit)) k))
         × (r ≡ true → (w : ℕ) × Spans (now (level .entry)) 0 count w × ((x : ℕ) → x < n → Along (now (rows .entry)) w seed x × Along (now (cols .entry)) w seed x)) ⌝ }
@@ -180,11 +180,12 @@ pub fn is_idle(
     if count < 2 {
         return false;
     }
+    // An inner level of one station gives none. With two in each there are no more levels than these.
     if 33 < count {
         return false;
     }
-    let mut tails = [0u64; 34];
-    let mut heads = [0u64; 34];
+    let mut tails = [0u64; 32];
+    let mut heads = [0u64; 32];
     if !rise(rows, cols, n, seed, level, count, &mut tails, &mut heads) {
         return false;
     }

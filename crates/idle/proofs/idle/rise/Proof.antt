@@ -1,3 +1,4 @@
+-- `idle::rise` meets its contract. The invariant: what the seed leads to, and what leads to it, among the levels below k (`Rising`). Assumes nothing.
 use borrow.Author.Needs.{needs}
 use denote.Ref.{now}
 use mathlib.Core.Path.{_≡_, sym, subst}
@@ -20,19 +21,19 @@ Inv-loop rows cols n seed level count tails₀ heads₀ seen₀ ahead₀ back₀
 abbrev μ-loop : tie.MeasureT-loop
 μ-loop rows cols n seed level count tails₀ heads₀ seen₀ ahead₀ back₀ k₀ tails heads seen ahead back k = count - k
 
--- src/idle.rt:80:20
+-- the entry, from the loop
+abbrev start : tie.At-loop Inv-loop μ-loop → tie.Start Inv-loop μ-loop
+start c = c .before .before .before
+
 shl-seen : tie.Need-shl-seen Inv-loop μ-loop
 shl-seen c = search needs
 
--- src/idle.rt:81:9
 led-from-requires : tie.Need-led-from-requires Inv-loop μ-loop
 led-from-requires c κs = search needs
 
--- src/idle.rt:82:9
 led-from-requires-2 : tie.Need-led-from-requires-2 Inv-loop μ-loop
 led-from-requires-2 c κs = search needs
 
--- src/idle.rt:84:5
 loop-holds : tie.Need-loop-holds Inv-loop μ-loop
 loop-holds c =
     let a = c .before .before .args in
@@ -45,59 +46,46 @@ loop-holds c =
       pre .2,
     )
 
--- src/idle.rt:84:11
 add-loop : tie.Need-add-loop Inv-loop μ-loop
 add-loop c = search needs
 
--- src/idle.rt:85:17
 mul-s : tie.Need-mul-s Inv-loop μ-loop
 mul-s c = search needs
 
--- src/idle.rt:85:17
 element-copy-out-s : tie.Need-element-copy-out-s Inv-loop μ-loop
 element-copy-out-s c = search needs
 
--- src/idle.rt:86:13
 ends-in-requires : tie.Need-ends-in-requires Inv-loop μ-loop
 ends-in-requires c κs = search needs
 
--- src/idle.rt:87:9
 mul-tails : tie.Need-mul-tails Inv-loop μ-loop
 mul-tails c = search needs
 
--- src/idle.rt:87:9
 element-write-tails : tie.Need-element-write-tails Inv-loop μ-loop
 element-write-tails c = search needs
 
--- src/idle.rt:88:9
 mul-heads : tie.Need-mul-heads Inv-loop μ-loop
 mul-heads c = search needs
 
--- src/idle.rt:88:9
 element-write-heads : tie.Need-element-write-heads Inv-loop μ-loop
 element-write-heads c = search needs
 
--- src/idle.rt:90:9
 led-on-requires : tie.Need-led-on-requires Inv-loop μ-loop
 led-on-requires c κs = search needs
 
--- src/idle.rt:91:9
 led-on-requires-2 : tie.Need-led-on-requires-2 Inv-loop μ-loop
 led-on-requires-2 c κs = search needs
 
--- src/idle.rt:92:9
 add-k : tie.Need-add-k Inv-loop μ-loop
 add-k c = search needs
 
--- src/idle.rt:84:5
 loop-less : tie.Need-loop-less Inv-loop μ-loop
 loop-less c = search needs
 
--- src/idle.rt:84:5
 loop-again : tie.Need-loop-again Inv-loop μ-loop
 loop-again c =
     let l = c .before .before .before .before .before .loop in
-    let s : ℕ = row (c .before .before .before .before .before .before .before .before .args .level .now) (l .k) in
+    let s : ℕ = row (start (c .before .before .before .before .before) .args .level .now) (l .k) in
     let R = l .inv .0 in
     let pairs = c .before .before .ends-in .ensures .2 _ _ (l .seen) _ (R .leads) (R .led) in (
       rising-turn R _ _ _ _ (omega arith) pairs
@@ -106,27 +94,22 @@ loop-again c =
       omega arith,
     )
 
--- src/idle.rt:94:13
 mul-s-2 : tie.Need-mul-s-2 Inv-loop μ-loop
 mul-s-2 c = search needs
 
--- src/idle.rt:94:13
 element-copy-out-s-2 : tie.Need-element-copy-out-s-2 Inv-loop μ-loop
 element-copy-out-s-2 c = search needs
 
--- src/idle.rt:95:8
 leads-to-all-requires : tie.Need-leads-to-all-requires Inv-loop μ-loop
 leads-to-all-requires c κs = search needs
 
--- src/idle.rt:96:9
 leads-to-all-requires-2 : tie.Need-leads-to-all-requires-2 Inv-loop μ-loop
 leads-to-all-requires-2 c κs = search needs
 
--- src/idle.rt:96:9
 returns : tie.Need-returns Inv-loop μ-loop
 returns c =
     let l = c .before .before .before .before .before .loop in
-    let a = c .before .before .before .before .before .before .before .before .args in
+    let a = start (c .before .before .before .before .before) .args in
     let s : ℕ = row (a .level .now) (l .k) in
     let w : ℕ = bitOr (l .seen) s in
     let R = l .inv .0 in
@@ -145,7 +128,6 @@ returns c =
       ),
     )
 
--- src/idle.rt:64:1
 returns-2 : tie.Need-returns-2 Inv-loop μ-loop
 returns-2 c =
     let l = c .before .before .before .before .loop in
