@@ -18,10 +18,11 @@ use Rattle.circuit.specs.State.{isOpen, rowsOf, moved, lastPlace, Good}
 use Rattle.filter.specs.Rule.{ruleAt}
 use Rattle.circuit.specs.Round.{All}
 use Rattle.filter.specs.Calls.{verdict, gone, halted, advanced, cycled, after, step, runFrom}
+use Rattle.filter.specs.Turns.{both}
 use Rattle.filter.proofs.AfterLaws.{marks}
 use Rattle.filter.proofs.CallLaws.{step-leads}
 use Rattle.filter.proofs.RemovalLaws.{from-removed}
-use Rattle.filter.proofs.RunLaws.{both, run-open, run-add, run-same}
+use Rattle.filter.proofs.RunLaws.{run-open, run-add, run-same}
 
 -- ---- the state after a step
 
