@@ -10,18 +10,17 @@ use Rattle.circuit.specs.declared.state.Work.{Work}
 use Rattle.circuit.specs.State.{isOpen, bad}
 use Rattle.filter.specs.declared.cycle.Ran.{Ran}
 use Rattle.filter.specs.Calls.{step, idle, onward, runFrom, runCall}
-use Rattle.filter.proofs.RemovalLaws as removals
+use Rattle.filter.proofs.AfterLaws.{runFrom-cases, runCall-cases}
 use Rattle.filter.proofs.RunLaws.{run-steps, run-good}
 
 pub steps-most : (w : Work) (budget : ℕ) → runCall w budget .steps ≤ budget
-unfolding runCall
-steps-most w budget = cond-elim (λ (r : Ran). r .steps ≤ budget) (bad w) (idle BadWork w) (runFrom budget w) (λ _. omega arith) (λ _. run-steps budget w)
+steps-most w budget = runCall-cases (λ (r : Ran). r .steps ≤ budget) w budget (λ _. omega arith) (λ _. run-steps budget w)
 
 from-spent : (b : ℕ) (w : Work) → runFrom b w .work .end ≡ Open → runFrom b w .steps ≡ b
 unfolding runFrom
 from-spent zero w = λ e. refl
 from-spent (suc b) w =
-    cond-elim (λ (r : Ran). r .work .end ≡ Open → r .steps ≡ suc b) (isOpen (w .end)) (onward (step w) (runFrom b (step w .work))) (idle Taken w)
+    runFrom-cases (λ (r : Ran). r .work .end ≡ Open → r .steps ≡ suc b) b w
     (λ _ e. ap suc (from-spent b (step w .work) e)) (λ shut e. clash (sym (ap isOpen e) ∙ shut))
 
 pub open-spent : (w : Work) (budget : ℕ) → bad w ≡ false → runCall w budget .work .end ≡ Open → runCall w budget .steps ≡ budget

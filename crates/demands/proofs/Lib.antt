@@ -3,4 +3,5 @@ pub mod RefusalLaws
 pub mod CountLaws
 pub mod DemandLaws
 pub mod CeilingLaws
+pub mod TurnLaws
 pub mod ExampleLaws

@@ -24,6 +24,7 @@ use Rattle.filter.specs.declared.hand.Called.{Called}
 use Rattle.filter.specs.declared.cycle.Ran.{Ran}
 use Rattle.filter.specs.Rule.{straySeed}
 use Rattle.filter.specs.Calls.{verdict, gone, halted, reopened, unchanged, byHand, handCall, idle, runFrom, runCall}
+use Rattle.filter.proofs.AfterLaws.{runCall-cases}
 use Rattle.filter.proofs.RunLaws.{run-taken}
 use Rattle.demands.specs.Demands.{Refusal}
 
@@ -57,9 +58,7 @@ hand-refused w r =
     kept c = Refusal (c .answer) → c ≡ unchanged (c .answer) w
 
 pub run-refused : (w : Work) (budget : ℕ) → Refusal (runCall w budget .answer) → runCall w budget ≡ idle (runCall w budget .answer) w
-unfolding runCall
-run-refused w budget =
-    cond-elim (λ (r : Ran). Refusal (r .answer) → r ≡ idle (r .answer) w) (bad w) (idle BadWork w) (runFrom budget w) (λ _ _. refl) (λ _ h. absurd (h (run-taken budget w)))
+run-refused w budget = runCall-cases (λ (r : Ran). Refusal (r .answer) → r ≡ idle (r .answer) w) w budget (λ _ _. refl) (λ _ h. absurd (h (run-taken budget w)))
 
 -- ---- the list check, the report and the sheet written back
 

@@ -5,5 +5,6 @@
 pub mod Sequence
 pub mod Demands
 pub mod Ceiling
+pub mod Turns
 pub mod Examples
 pub mod Definitions

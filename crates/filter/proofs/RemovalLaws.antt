@@ -30,7 +30,7 @@ use Rattle.filter.specs.declared.cycle.Ran.{Ran}
 use Rattle.filter.specs.Rule.{straySeed, ruleAt}
 use Rattle.filter.specs.Calls.{verdict, gone, halted, unchanged, reopened, byHand, handCall, step, idle, onward, runFrom, runCall}
 use Rattle.filter.specs.Leads.{Leads}
-use Rattle.filter.proofs.AfterLaws.{after-rows, left-le}
+use Rattle.filter.proofs.AfterLaws.{after-rows, left-le, runFrom-cases, runCall-cases}
 use Rattle.filter.proofs.CallLaws.{place-sound, step-leads, handCall-leads, runCall-leads}
 use Rattle.filter.proofs.HandLaws.{call-bad}
 use Rattle.filter.proofs.RuleLaws.{says-sound}
@@ -52,7 +52,7 @@ from-removed (suc b) w g =
     let r = runFrom b (step w .work) in
     let more : r .removed + legs (w .n) (rowsOf (r .work)) ≡ legs (w .n) (rowsOf (step w .work)) =
     subst (λ (n : ℕ). r .removed + legs n (rowsOf (r .work)) ≡ legs n (rowsOf (step w .work))) (s .stations) (from-removed b (step w .work) (s .keeps g)) in
-    cond-elim (λ (q : Ran). q .removed + legs (w .n) (rowsOf (q .work)) ≡ legs (w .n) (rowsOf w)) (isOpen (w .end)) (onward (step w) r) (idle Taken w)
+    runFrom-cases (λ (q : Ran). q .removed + legs (w .n) (rowsOf (q .work)) ≡ legs (w .n) (rowsOf w)) b w
     (λ _. omega (arith, more, step-removed w g)) (λ _. omega arith)
 
 -- ---- the calls
@@ -84,9 +84,8 @@ hand-removed w r =
     whole c = c .removed + legs (w .n) (rowsOf (c .work)) ≡ legs (w .n) (rowsOf w)
 
 pub run-removed : (w : Work) (budget : ℕ) → runCall w budget .removed + legs (w .n) (rowsOf (runCall w budget .work)) ≡ legs (w .n) (rowsOf w)
-unfolding runCall
 run-removed w budget =
-    cond-elim (λ (r : Ran). r .removed + legs (w .n) (rowsOf (r .work)) ≡ legs (w .n) (rowsOf w)) (bad w) (idle BadWork w) (runFrom budget w) (λ _. omega arith)
+    runCall-cases (λ (r : Ran). r .removed + legs (w .n) (rowsOf (r .work)) ≡ legs (w .n) (rowsOf w)) w budget (λ _. omega arith)
     (λ e. from-removed budget w (good w e))
 
 -- ---- no removals
