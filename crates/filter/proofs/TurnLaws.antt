@@ -18,7 +18,7 @@ use Rattle.filter.proofs.CallLaws.{runFrom-leads}
 use Rattle.filter.proofs.RunLaws.{run-add, run-good, run-bad, run-taken}
 
 -- the state that a run hands back is as bad or good as the one that it was given
-run-stays : (w : Work) (a : ℕ) → bad (runCall w a .work) ≡ bad w
+pub run-stays : (w : Work) (a : ℕ) → bad (runCall w a .work) ≡ bad w
 run-stays w a =
     ⊎-elim (λ e. ap (λ (r : Ran). bad (r .work)) (run-bad w a e))
     (λ e. ap (λ (r : Ran). bad (r .work)) (run-good w a e) ∙ not-bad (runFrom a w .work) (runFrom-leads All a w (good w e) .keeps (good w e)) ∙ sym e)

@@ -21,8 +21,7 @@ use Rattle.demands.specs.Sequence.{running, handed}
 use Rattle.loungeegret.specs.Words.{stateWords, loaded}
 use Rattle.loungeegret.specs.Results.{noState, onState, RunResult}
 use Rattle.loungeegret.specs.Sequence.{wordsHanded}
-use Rattle.loungeegret.proofs.WordsLaws.{loaded-long}
-use Rattle.loungeegret.proofs.SequenceLaws.{on-state, handed-holds}
+use Rattle.loungeegret.proofs.SequenceLaws.{on-state, lent-holds, handed-holds}
 
 module _ (s s₁ : List ℕ) (budget m m₁ k k₁ r : ℕ) (R : RunResult (runCall (loaded s) budget) s s₁ m m₁ k k₁ r) (full : fullBudget ≤ budget) (zero : r ≡ 0) where
   abbrev c : Ran
@@ -42,7 +41,7 @@ module _ (s s₁ : List ℕ) (budget m m₁ k k₁ r : ℕ) (R : RunResult (runC
   -- the words hold what the run hands back
   held : loaded s₁ ≡ c .work
   unfolding wordsHanded handed
-  held = ap loaded (R .words) ∙ handed-holds s s (loaded s) (record { enough = suffice; is = refl; long = loaded-long s suffice; rest = refl }) (running budget) .is
+  held = ap loaded (R .words) ∙ handed-holds s s (loaded s) (lent-holds s suffice) (running budget) .is
 
   pub run-ended : Ended (loaded s₁)
   run-ended = subst Ended (sym held) (run-enough (loaded s) (good (loaded s) not-bad) budget full)

@@ -2,3 +2,4 @@
 pub mod WordsLaws
 pub mod SequenceLaws
 pub mod EndLaws
+pub mod TurnLaws

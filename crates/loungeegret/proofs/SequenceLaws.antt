@@ -25,7 +25,7 @@ use Rattle.demands.proofs.RefusalLaws.{hand-refused, run-refused}
 use Rattle.loungeegret.specs.Words.{stateWords, loaded, stored, storedIn}
 use Rattle.loungeegret.specs.Results.{onState, refuses, wordsAfter}
 use Rattle.loungeegret.specs.Sequence.{openedWords, wordsBack, wordsHanded, wordsAll, InSequence}
-use Rattle.loungeegret.proofs.WordsLaws.{length-stored, loaded-stored}
+use Rattle.loungeegret.proofs.WordsLaws.{length-stored, loaded-stored, loaded-long}
 
 -- words that suffice are written
 pub on-state : {A : Type 0} (s : List ℕ) (x y : A) → stateWords ≤ length s → onState s x y ≡ y
@@ -38,6 +38,10 @@ pub record Holds (o s : List ℕ) (w : Work) : Type 0 where
   pub is : loaded s ≡ w
   pub long : length (rowsOf w) ≡ 64
   pub rest : drop stateWords s ≡ drop stateWords o
+
+-- words that suffice hold the state that they say
+pub lent-holds : (s : List ℕ) → stateWords ≤ length s → Holds s s (loaded s)
+lent-holds s h = record { enough = h; is = refl; long = loaded-long s h; rest = refl }
 
 -- a state that is stored
 stored-holds : (o s : List ℕ) (w : Work) → drop stateWords s ≡ drop stateWords o → length (rowsOf w) ≡ 64 → Holds o (storedIn s w) w
@@ -79,7 +83,7 @@ handed-holds o s w H (checking list) = H
 handed-holds o s w H (reporting buffer) = H
 handed-holds o s w H (writing buffer) = H
 
-all-hold : (o s : List ℕ) (w : Work) → Holds o s w → (cs : List Call) → Holds o (wordsAll s cs) (afterAll w cs)
+pub all-hold : (o s : List ℕ) (w : Work) → Holds o s w → (cs : List Call) → Holds o (wordsAll s cs) (afterAll w cs)
 unfolding wordsAll afterAll
 all-hold o s w H [] = H
 all-hold o s w H (c ∷ cs) = all-hold o (wordsHanded s c) (handed w c) (handed-holds o s w H c) cs

@@ -2,4 +2,5 @@
 pub mod Words
 pub mod Results
 pub mod Sequence
+pub mod Turns
 pub mod inner
