@@ -3,13 +3,12 @@ use mathlib.Core.Path.{_≡_, refl, sym, ap, _∙_}
 use mathlib.Core.Bool.{false}
 use Prim.Native.Nat.{ℕ, zero, suc, _≤_}
 use native.Mathlib.Omega.{arith}
-use Rattle.bitset.proofs.BoolLaws.{clash, cond-elim}
-use Rattle.circuit.specs.declared.card.Answer.the-variants.{Taken, BadWork}
+use Rattle.bitset.proofs.BoolLaws.{clash}
 use Rattle.circuit.specs.declared.card.End.the-variants.{Open}
 use Rattle.circuit.specs.declared.state.Work.{Work}
 use Rattle.circuit.specs.State.{isOpen, bad}
 use Rattle.filter.specs.declared.cycle.Ran.{Ran}
-use Rattle.filter.specs.Calls.{step, idle, onward, runFrom, runCall}
+use Rattle.filter.specs.Calls.{step, runFrom, runCall}
 use Rattle.filter.proofs.AfterLaws.{runFrom-cases, runCall-cases}
 use Rattle.filter.proofs.RunLaws.{run-steps, run-good}
 

@@ -23,7 +23,7 @@ use Rattle.filter.specs.declared.rule.Rule.{Rule}
 use Rattle.filter.specs.declared.hand.Called.{Called}
 use Rattle.filter.specs.declared.cycle.Ran.{Ran}
 use Rattle.filter.specs.Rule.{straySeed}
-use Rattle.filter.specs.Calls.{verdict, gone, halted, reopened, unchanged, byHand, handCall, idle, runFrom, runCall}
+use Rattle.filter.specs.Calls.{verdict, gone, halted, reopened, unchanged, byHand, handCall, idle, runCall}
 use Rattle.filter.proofs.AfterLaws.{runCall-cases}
 use Rattle.filter.proofs.RunLaws.{run-taken}
 use Rattle.demands.specs.Demands.{Refusal}

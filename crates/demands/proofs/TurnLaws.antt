@@ -2,22 +2,21 @@
 use mathlib.Core.Path.{_≡_, refl, sym, ap, _∙_}
 use mathlib.Core.Bool.{false}
 use mathlib.Core.List.{List, [], _∷_}
-use Prim.Native.Nat.{ℕ, _+_}
 use Rattle.bitset.proofs.BoolLaws.{clash}
 use Rattle.circuit.specs.declared.state.Work.{Work}
 use Rattle.filter.specs.declared.cycle.Ran.{Ran}
 use Rattle.filter.specs.Calls.{runCall}
 use Rattle.filter.proofs.TurnLaws.{run-sum, run-nothing}
 use Rattle.demands.specs.Sequence.{Call, calling, running, checking, reporting, writing, handed, afterAll}
-use Rattle.demands.specs.Turns.{byHand, budgetOf, budgetsOf, NoneByHand, OneRun}
+use Rattle.demands.specs.Turns.{isByHand, budgetOf, budgetsOf, OneRun}
 
 -- a run with budget 0 hands back the state that it was given
 nothing-run : (w : Work) → w ≡ runCall w 0 .work
 nothing-run w = sym (ap (λ (r : Ran). r .work) (run-nothing w))
 
 -- a call that is none by hand hands back what a run with its budget does
-pub handed-run : (w : Work) (c : Call) → byHand c ≡ false → handed w c ≡ runCall w (budgetOf c) .work
-unfolding handed byHand budgetOf
+pub handed-run : (w : Work) (c : Call) → isByHand c ≡ false → handed w c ≡ runCall w (budgetOf c) .work
+unfolding handed isByHand budgetOf
 handed-run w (calling r) e = clash e
 handed-run w (running budget) e = refl
 handed-run w (checking list) e = nothing-run w

@@ -9,12 +9,12 @@ use Rattle.filter.specs.Calls.{runCall}
 use Rattle.demands.specs.Sequence.{Call, calling, running, checking, reporting, writing, afterAll}
 
 -- a call by hand: a sweep, a chain step or a pass
-unfoldable pub byHand : Call → Bool
-byHand (calling r) = true
-byHand (running budget) = false
-byHand (checking list) = false
-byHand (reporting buffer) = false
-byHand (writing buffer) = false
+unfoldable pub isByHand : Call → Bool
+isByHand (calling r) = true
+isByHand (running budget) = false
+isByHand (checking list) = false
+isByHand (reporting buffer) = false
+isByHand (writing buffer) = false
 
 -- the budget that a call gives to runs
 unfoldable pub budgetOf : Call → ℕ
@@ -31,7 +31,7 @@ budgetsOf (c ∷ cs) = budgetOf c + budgetsOf cs
 
 -- no call by hand is in the list: runs, and between them list checks, reports and sheets written back
 abbrev pub NoneByHand : List Call → Type 0
-NoneByHand cs = Each (λ (c : Call). byHand c ≡ false) cs
+NoneByHand cs = Each (λ (c : Call). isByHand c ≡ false) cs
 
 -- of any work state: where no call by hand stands between, the state after a list of calls is that of one run with the sum of the budgets
 abbrev pub OneRun : Work → List Call → Type 0

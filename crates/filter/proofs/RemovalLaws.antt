@@ -20,7 +20,7 @@ use Rattle.circuit.specs.declared.state.Work.{Work}
 use Rattle.circuit.specs.declared.verdict.Verdict.{Verdict}
 use Rattle.circuit.specs.declared.card.Answer.the-variants.{Taken, BadWork, StraySeed}
 use Rattle.circuit.specs.Legs.{leg, legs, Subtable}
-use Rattle.circuit.specs.State.{isOpen, isNone, rowsOf, stray, bad, Good}
+use Rattle.circuit.specs.State.{isNone, rowsOf, stray, bad, Good}
 use Rattle.circuit.specs.Round.{All}
 use Rattle.circuit.specs.Verdict.{Sound}
 use Rattle.circuit.proofs.StateLaws.{good, stray-row, stray-beyond, stray-sub}
@@ -28,7 +28,7 @@ use Rattle.filter.specs.declared.rule.Rule.{Rule}
 use Rattle.filter.specs.declared.hand.Called.{Called}
 use Rattle.filter.specs.declared.cycle.Ran.{Ran}
 use Rattle.filter.specs.Rule.{straySeed, ruleAt}
-use Rattle.filter.specs.Calls.{verdict, gone, halted, unchanged, reopened, byHand, handCall, step, idle, onward, runFrom, runCall}
+use Rattle.filter.specs.Calls.{verdict, gone, halted, unchanged, reopened, byHand, handCall, step, runFrom, runCall}
 use Rattle.filter.specs.Leads.{Leads}
 use Rattle.filter.proofs.AfterLaws.{after-rows, left-le, runFrom-cases, runCall-cases}
 use Rattle.filter.proofs.CallLaws.{place-sound, step-leads, handCall-leads, runCall-leads}

@@ -15,7 +15,7 @@ use Rattle.filter.specs.Turns.{both, turns}
 use Rattle.filter.proofs.HandLaws.{call-bad}
 use Rattle.filter.proofs.RunLaws.{run-bad}
 use Rattle.filter.proofs.TurnLaws.{run-stays, turns-sum, runs-add}
-use Rattle.demands.specs.Sequence.{Call, calling, running, checking, reporting, writing, handed, afterAll}
+use Rattle.demands.specs.Sequence.{Call, calling, running, checking, reporting, writing, handed}
 use Rattle.demands.specs.Turns.{budgetsOf, NoneByHand}
 use Rattle.demands.proofs.TurnLaws.{one-run}
 use Rattle.loungeegret.specs.Words.{stateWords, loaded, stored, storedIn}
