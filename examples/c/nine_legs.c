@@ -65,7 +65,10 @@ static int prune(const uint8_t *sheet, size_t sheet_length, const char *struck)
         printf("refused %u at %zu\n", (unsigned)number, place);
         return 1;
     }
-    /* Sweeps, chain steps and passes; each can also be called by hand. This budget always suffices: the end is stable or none. */
+    /*
+     * Sweeps, chain steps and passes; each can also be called by hand. This budget always suffices: the end is stable or none.
+     * Short turns with smaller budgets, while the end is open, come to the same.
+     */
     if (loungeegret_run(state, LOUNGEEGRET_STATE_WORDS, LOUNGEEGRET_FULL_BUDGET, &steps, &removed) != LOUNGEEGRET_TAKEN)
         return fail("the run is refused");
     puts(words[state[LOUNGEEGRET_END]]);

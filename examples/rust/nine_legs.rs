@@ -99,6 +99,7 @@ fn prune(sheet: &[u8], out: &mut impl Write, struck: Option<OsString>) -> io::Re
         return Ok(1);
     }
     // Sweeps, chain steps and passes; each can also be called by hand. This budget always suffices: the end is stable or none.
+    // Short turns with smaller budgets, while the end is open, come to the same.
     let number = unsafe {
         let words = state.as_mut_ptr();
         loungeegret_run(words, state.len(), FULL_BUDGET, &mut steps, &mut removed)

@@ -1,4 +1,4 @@
--- The demands, the ceiling and the examples hold.
+-- The demands, the ceiling, runs in turns and the examples hold.
 pub mod RefusalLaws
 pub mod CountLaws
 pub mod DemandLaws
