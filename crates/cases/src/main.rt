@@ -46,7 +46,7 @@ const REPORT: usize = 16384;
 // The longest buffer of a written sheet.
 const SHEET: usize = 640;
 
-// An opcode, three words, the mark, the end and the row count.
+// An opcode, three words, the mark, the end and the row count. A contract writes it out.
 const WORK_HEAD: usize = 28;
 
 // How many bytes a command took, 0 where it stops the script, and the state after it. The functions below take the part of the
@@ -178,29 +178,34 @@ fn check_list(part: &[u8], work: Work) -> Step
     Step { taken: end, work }
 }
 
-// What a buffer holds before the call. As a call's result the array is known by its length, and not by its elements.
-fn filled() -> [u8; REPORT]
-    ensures { λ r. ⌜ 16384 ≡ length r ⌝ }
-{
-    [b'.'; REPORT]
-}
-
-// A report or a written sheet, by its opcode, into a buffer of at most so many bytes.
-fn fill(part: &[u8], work: Work, most: usize) -> Step
-    requires { ⌜ most ≤ 16384 ⌝ }
+// A report or a written sheet, by its opcode, into the first bytes of a buffer.
+fn fill(part: &[u8], work: Work, buf: &mut [u8]) -> Step
     ensures { λ r. ⌜ r .taken ≤ length (now (part .entry)) ⌝ }
 {
     if part.len() < 3 {
         return stop(work);
     }
     let len = read_u16(part, 1) as usize;
-    if most < len {
+    if buf.len() < len {
         return stop(work);
     }
     let opcode = part[0];
-    let mut buf = filled();
-    print_filled(opcode, work, &mut buf[..len]);
+    print_filled(opcode, work, &mut buf[0..len]);
     Step { taken: 3, work }
+}
+
+fn report(part: &[u8], work: Work) -> Step
+    ensures { λ r. ⌜ r .taken ≤ length (now (part .entry)) ⌝ }
+{
+    let mut buf = [b'.'; REPORT];
+    fill(part, work, &mut buf)
+}
+
+fn write(part: &[u8], work: Work) -> Step
+    ensures { λ r. ⌜ r .taken ≤ length (now (part .entry)) ⌝ }
+{
+    let mut buf = [b'.'; SHEET];
+    fill(part, work, &mut buf)
 }
 
 fn command(part: &[u8], work: Work) -> Step
@@ -216,8 +221,8 @@ fn command(part: &[u8], work: Work) -> Step
         b'P' => pass(part, work),
         b'R' => run(part, work),
         b'L' => check_list(part, work),
-        b'T' => fill(part, work, REPORT),
-        b'B' => fill(part, work, SHEET),
+        b'T' => report(part, work),
+        b'B' => write(part, work),
         _ => stop(work),
     }
 }
