@@ -14,6 +14,7 @@ use crate::state::{last_place, End, WorkState};
 use crate::table::LegTable;
 
 pub fn add(script: &mut Script) {
+    // Five stations, 28 steps.
     let long = at_rest(&long_runs()[3]);
     let none = at_rest(&none_in_second_cycle());
     for state in [nine_legs(), long, none] {
@@ -104,16 +105,19 @@ fn largest_budget(script: &mut Script, state: &WorkState) {
     group(script, state, u32::MAX, &rows);
 }
 
-/// Mid-cycle with the mark set, as a run leaves it and as none does: cut at the end of
-/// the cycle, one step before and one step after.
+/// Mid-cycle with the mark set: as a run leaves it, and on the table at its end, where
+/// only the mark asks for another cycle. Cut at the end of the cycle, one step before and
+/// one step after.
 fn marked_states(script: &mut Script, opened: &WorkState) {
     let left = (1..steps(opened)).map(|budget| fast::run(*opened, budget).state);
     let mut states: Vec<WorkState> = left.filter(|state| state.mark).step_by(4).collect();
+    let ended = fast::run(*opened, u32::MAX).state;
     for place in [0, last_place(opened.n)] {
         states.push(WorkState {
             place,
             mark: true,
-            ..*opened
+            end: End::Open,
+            ..ended
         });
     }
     for state in states {
@@ -158,8 +162,8 @@ fn ended_states(script: &mut Script) {
     }
 }
 
-/// One clause each: the count, the limit, the place, a row, a bit, a station's own bit.
-/// Each turn is refused, also that of 0.
+/// The count, the limit, the place, a row, a bit or a station's own bit is bad, the place
+/// also on ended states. Each turn is refused, that of 0 too.
 fn bad_states(script: &mut Script) {
     let good = nine_legs();
     let with_leg = |i: usize, j: usize| {

@@ -170,11 +170,13 @@ fn each_turn_keeps_to_its_budget() {
     }
 }
 
+type Change = fn(&mut Row);
+
 #[test]
 fn a_change_of_any_part_is_found() {
     let all = groups(&Fast);
     let Group { whole, rows } = &all[0];
-    let changes: [(&str, fn(&mut Row)); 6] = [
+    let changes: [(&str, Change); 6] = [
         ("first state", |row| row.state.push('.')),
         ("number", |row| row.turns[0].number += 1),
         ("budgets", |row| row.turns[0].budget += 1),
