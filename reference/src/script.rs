@@ -7,7 +7,7 @@
 //! | Opcode | Arguments |
 //! |---|---|
 //! | `O` open | limit u64, length u16, sheet bytes |
-//! | `W` work state | n, limit, place u64, mark u8, end u8, 64 rows u64 |
+//! | `W` work state | n, limit, place u64, mark u8, end u8, row count u8, at most 64, rows u64 |
 //! | `S` sweep | |
 //! | `C` chain step | |
 //! | `P` pass | seed u64 |
@@ -16,8 +16,9 @@
 //! | `T` report | buffer length u16, at most 16,384 |
 //! | `B` write | buffer length u16, at most 640 |
 //!
-//! The calls work on one current state, at first the blank one. A report and a write
-//! are answered by their whole buffer, that of a write in hexadecimal.
+//! The calls work on one current state, at first the blank one. The rows of a work state
+//! beyond its row count are empty. A report and a write are answered by their whole
+//! buffer, that of a write in hexadecimal.
 
 use std::io::{self, Write};
 
@@ -58,7 +59,15 @@ impl Script {
             End::Stable => 1,
             End::None => 2,
         });
-        for row in state.rows {
+        self.rows(&state.rows);
+    }
+
+    /// The rows up to the last that is not empty.
+    fn rows(&mut self, rows: &[u64; 64]) {
+        let last = rows.iter().rposition(|&row| row != 0);
+        let count = last.map_or(0, |last| last + 1);
+        self.bytes.push(count as u8);
+        for row in &rows[..count] {
             self.bytes.extend(row.to_le_bytes());
         }
     }
@@ -171,7 +180,8 @@ impl<'a> Reader<'a> {
             },
             rows: [0; 64],
         };
-        for row in &mut state.rows {
+        let count = usize::from(self.byte()?);
+        for row in state.rows.get_mut(..count)? {
             *row = self.word()?;
         }
         Some(state)

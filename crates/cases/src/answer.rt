@@ -13,12 +13,8 @@ use circuit::Work;
 use filter::Called;
 use filter::Ran;
 use sheet::Opened;
-ghost use Prim.Native.Nat.{_≤_};
 
-fn put_end(line: &mut [u8; LINE], at: usize, end: End) -> usize
-    requires { ⌜ at ≤ 1536 ⌝ }
-    ensures { λ r. ⌜ r ≤ 1536 ⌝ }
-{
+fn put_end(line: &mut [u8; LINE], at: usize, end: End) -> usize {
     match end {
         End::Open => put(line, at, b" end open"),
         End::Stable => put(line, at, b" end stable"),
@@ -85,10 +81,7 @@ pub fn print_ran(ran: Ran) {
     print_state(ran.work);
 }
 
-fn put_yes(line: &mut [u8; LINE], at: usize, yes: bool) -> usize
-    requires { ⌜ at ≤ 1536 ⌝ }
-    ensures { λ r. ⌜ r ≤ 1536 ⌝ }
-{
+fn put_yes(line: &mut [u8; LINE], at: usize, yes: bool) -> usize {
     if yes {
         put(line, at, b" yes\n")
     } else {

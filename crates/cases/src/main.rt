@@ -1,7 +1,7 @@
 // Answers a script of calls from standard input. A command is an opcode byte and its arguments, integers little-endian:
 //
 //   O  open        limit u64, length u16, sheet bytes
-//   W  work state  n, limit, place u64, mark u8, end u8, 64 rows u64
+//   W  work state  n, limit, place u64, mark u8, end u8, row count u8, at most 64, rows u64
 //   S  sweep
 //   C  chain step
 //   P  pass        seed u64
@@ -10,8 +10,8 @@
 //   T  report      buffer length u16, at most 16,384
 //   B  write       buffer length u16, at most 640
 //
-// The calls work on one current state, at first the blank one. An unknown or cut command, or an argument out of its range, is
-// answered by `stop`, and ends the script.
+// The calls work on one current state, at first the blank one. The rows of a work state beyond its row count are empty. An unknown
+// or cut command, or an argument out of its range, is answered by `stop`, and ends the script.
 mod answer;
 mod line;
 mod read;
@@ -34,7 +34,7 @@ use read::read_u32;
 use read::read_u64;
 ghost use denote.Ref.{now};
 ghost use mathlib.Core.Path.{_≡_};
-ghost use Prim.Native.Nat.{_≤_};
+ghost use Prim.Native.Nat.{_+_, _*_, _≤_};
 ghost use lib.ListN.{length};
 
 // The longest script; what is past it is not read.
@@ -46,8 +46,8 @@ const REPORT: usize = 16384;
 // The longest buffer of a written sheet.
 const SHEET: usize = 640;
 
-// An opcode, three words, the mark, the end and 64 rows.
-const WORK_LEN: usize = 539;
+// An opcode, three words, the mark, the end and the row count. A contract writes it out.
+const WORK_HEAD: usize = 28;
 
 // How many bytes a command took, 0 where it stops the script, and the state after it. The functions below take the part of the
 // script that starts with their command.
@@ -87,33 +87,47 @@ fn open(part: &[u8], work: Work) -> Step
     }
 }
 
-fn set_work(part: &[u8], work: Work) -> Step
-    ensures { λ r. ⌜ r .taken ≤ length (now (part .entry)) ⌝ }
+// The state of a command that is whole and has so many rows.
+fn read_work(part: &[u8], count: usize) -> Work
+    requires { ⌜ (count ≤ 64) × (28 + 8 * count ≤ length (now part)) ⌝ }
 {
-    if part.len() < WORK_LEN {
-        return stop(work);
-    }
     let mark = part[25];
     let end = part[26];
-    if 1 < mark || 2 < end {
-        return stop(work);
-    }
     let table = Table {
-        rows: read_rows(part, 27),
+        rows: read_rows(part, WORK_HEAD, count),
     };
-    let next = Work::new(
+    Work::new(
         read_u64(part, 1) as usize,
         table,
         read_u64(part, 9) as usize,
         read_u64(part, 17) as usize,
         mark == 1,
         end_of(end),
-    );
-    print_work(next);
-    Step {
-        taken: WORK_LEN,
-        work: next,
+    )
+}
+
+fn set_work(part: &[u8], work: Work) -> Step
+    ensures { λ r. ⌜ r .taken ≤ length (now (part .entry)) ⌝ }
+{
+    if part.len() < WORK_HEAD {
+        return stop(work);
     }
+    if 1 < part[25] || 2 < part[26] {
+        return stop(work);
+    }
+    // Tested by itself: of a test behind `||` the check keeps nothing.
+    let count = part[27];
+    if 64 < count {
+        return stop(work);
+    }
+    let count = count as usize;
+    let taken = WORK_HEAD + 8 * count;
+    if part.len() < taken {
+        return stop(work);
+    }
+    let next = read_work(part, count);
+    print_work(next);
+    Step { taken, work: next }
 }
 
 // A rule called by hand by a command of so many bytes, and its answer.
@@ -164,29 +178,34 @@ fn check_list(part: &[u8], work: Work) -> Step
     Step { taken: end, work }
 }
 
-// What a buffer holds before the call. As a call's result the array is known by its length, and not by its elements.
-fn filled() -> [u8; REPORT]
-    ensures { λ r. ⌜ 16384 ≡ length r ⌝ }
-{
-    [b'.'; REPORT]
-}
-
-// A report or a written sheet, by its opcode, into a buffer of at most so many bytes.
-fn fill(part: &[u8], work: Work, most: usize) -> Step
-    requires { ⌜ most ≤ 16384 ⌝ }
+// A report or a written sheet, by its opcode, into the first bytes of a buffer.
+fn fill(part: &[u8], work: Work, buf: &mut [u8]) -> Step
     ensures { λ r. ⌜ r .taken ≤ length (now (part .entry)) ⌝ }
 {
     if part.len() < 3 {
         return stop(work);
     }
     let len = read_u16(part, 1) as usize;
-    if most < len {
+    if buf.len() < len {
         return stop(work);
     }
     let opcode = part[0];
-    let mut buf = filled();
-    print_filled(opcode, work, &mut buf[..len]);
+    print_filled(opcode, work, &mut buf[0..len]);
     Step { taken: 3, work }
+}
+
+fn report(part: &[u8], work: Work) -> Step
+    ensures { λ r. ⌜ r .taken ≤ length (now (part .entry)) ⌝ }
+{
+    let mut buf = [b'.'; REPORT];
+    fill(part, work, &mut buf)
+}
+
+fn write(part: &[u8], work: Work) -> Step
+    ensures { λ r. ⌜ r .taken ≤ length (now (part .entry)) ⌝ }
+{
+    let mut buf = [b'.'; SHEET];
+    fill(part, work, &mut buf)
 }
 
 fn command(part: &[u8], work: Work) -> Step
@@ -202,8 +221,8 @@ fn command(part: &[u8], work: Work) -> Step
         b'P' => pass(part, work),
         b'R' => run(part, work),
         b'L' => check_list(part, work),
-        b'T' => fill(part, work, REPORT),
-        b'B' => fill(part, work, SHEET),
+        b'T' => report(part, work),
+        b'B' => write(part, work),
         _ => stop(work),
     }
 }

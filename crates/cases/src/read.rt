@@ -1,6 +1,6 @@
 // Little-endian integers at a place of a part of the script.
 ghost use denote.Ref.{now};
-ghost use Prim.Native.Nat.{_+_, _≤_, _<_};
+ghost use Prim.Native.Nat.{_+_, _*_, _≤_, _<_};
 ghost use lib.ListN.{length};
 
 // A cast of an element in place would ask that it fits; of a parameter that is known.
@@ -28,12 +28,13 @@ pub fn read_u64(s: &[u8], at: usize) -> u64
     read_u32(s, at) as u64 + 4294967296 * (read_u32(s, at + 4) as u64)
 }
 
-pub fn read_rows(s: &[u8], at: usize) -> [u64; 64]
-    requires { ⌜ at + 512 ≤ length (now s) ⌝ }
+// So many rows; the others are empty.
+pub fn read_rows(s: &[u8], at: usize, count: usize) -> [u64; 64]
+    requires { ⌜ (count ≤ 64) × (at + 8 * count ≤ length (now s)) ⌝ }
 {
     let mut rows = [0u64; 64];
     let mut i = 0usize;
-    while i < 64 {
+    while i < count {
         rows[i] = read_u64(s, at + 8 * i);
         i += 1;
     }

@@ -11,6 +11,7 @@ mod openings;
 mod passes;
 mod runs;
 mod sweeps;
+mod turns;
 mod valleys;
 mod written;
 
@@ -35,6 +36,7 @@ pub fn script() -> Script {
     written::add(&mut script);
     valleys::add(&mut script);
     ceilings::add(&mut script);
+    turns::add(&mut script);
     script
 }
 
@@ -49,6 +51,13 @@ pub fn valleys() -> Script {
 pub fn ceilings() -> Script {
     let mut script = Script::default();
     ceilings::add(&mut script);
+    script
+}
+
+/// The section of turns alone.
+pub fn turns() -> Script {
+    let mut script = Script::default();
+    turns::add(&mut script);
     script
 }
 

@@ -19,6 +19,7 @@ mod scripts;
 mod soundness;
 mod states;
 mod stored;
+mod turns_vectors;
 mod valley_faults;
 mod valleys;
 mod wall;

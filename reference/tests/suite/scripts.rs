@@ -1,7 +1,7 @@
 //! The script format and the script of vectors.
 
 use reference::script::{play, Script};
-use reference::{vectors, Calls, Fast, Plain, Telling};
+use reference::{vectors, Calls, Fast, LegTable, Plain, Telling, WorkState};
 
 pub fn answers(calls: &impl Calls, script: &[u8]) -> Vec<u8> {
     let mut out = Vec::new();
@@ -64,13 +64,65 @@ fn a_work_state_comes_back_as_it_was() {
     state.rows[63] = u64::MAX;
     let mut script = Script::default();
     script.work(&state);
-    assert_eq!(script.bytes().len(), 539);
+    assert_eq!(script.bytes().len(), 28 + 8 * 64);
     let expected = "\
 work
 state n 18446744073709551615 limit 64 place 9 mark 1 end open legs 66 \
 1=0000000000000002 2=0000000000000001 64=ffffffffffffffff
 ";
     assert_eq!(text(script.bytes()), expected);
+}
+
+/// A work command with so many rows after its row count.
+fn work_of_rows(count: u8, rows: usize) -> Vec<u8> {
+    let mut script = Script::default();
+    script.work(&WorkState::BLANK);
+    let mut bytes = script.bytes().to_vec();
+    *bytes.last_mut().expect("the row count") = count;
+    bytes.extend([2, 0, 0, 0, 0, 0, 0, 0].repeat(rows));
+    bytes
+}
+
+/// Rows are written up to the last that is not empty; the rest are empty again, also
+/// after a state of 64 rows.
+#[test]
+fn a_work_state_of_few_rows_comes_back_as_it_was() {
+    let mut script = Script::default();
+    script.work(&WorkState::opened(&LegTable::full(64), 64));
+    let mut expected = text(script.bytes());
+    let mut length = script.bytes().len();
+    for (last, rows) in [(1, "1=0000000000000001"), (3, "3=0000000000000004")] {
+        let mut state = WorkState::BLANK;
+        state.rows[last - 1] = 1 << (last - 1);
+        script.work(&state);
+        length += 28 + 8 * last;
+        expected += "work\nstate n 0 limit 0 place 0 mark 0 end open legs 1 ";
+        expected += &format!("{rows}\n");
+    }
+    assert_eq!(script.bytes().len(), length);
+    assert_eq!(text(script.bytes()), expected);
+}
+
+#[test]
+fn row_counts_above_64_stop() {
+    for count in [0, 1, 63, 64] {
+        let answer = text(&work_of_rows(count, usize::from(count)));
+        let start = format!("work\nstate n 0 limit 0 place 0 mark 0 end open legs {count}");
+        assert!(answer.starts_with(&start), "{answer}");
+    }
+    for count in [65, 128, 255] {
+        assert_eq!(text(&work_of_rows(count, 255)), "stop\n");
+    }
+}
+
+#[test]
+fn cut_row_lists_stop() {
+    for count in [1, 5, 64] {
+        let whole = work_of_rows(count, usize::from(count));
+        for length in 1..whole.len() {
+            assert_eq!(text(&whole[..length]), "stop\n");
+        }
+    }
 }
 
 #[test]

@@ -1,16 +1,17 @@
--- `cases::line::put` is safe and ends, and stays within the line. Assumes nothing.
+-- `cases::line::put` is safe and ends. Assumes nothing.
 use borrow.Author.Needs.{needs}
 use borrow.Author.Tests.{ltb-true}
 use native.Mathlib.Omega.{arith}
 use Prim.Native.Nat.{_-_, _≤_}
+use lib.ListN.{length}
 use Rattle.cases.proofs.line.put.Statement.{statement}
 use Rattle.cases.proofs.line.put.Tie as tie
 
 abbrev Inv-loop : tie.InvT-loop
-Inv-loop line₀ at text i₀ k₀ line i k = i ≤ 1536
+Inv-loop line₀ at text i₀ k₀ line i k = k ≤ length text
 
 abbrev μ-loop : tie.MeasureT-loop
-μ-loop line₀ at text i₀ k₀ line i k = 1536 - i
+μ-loop line₀ at text i₀ k₀ line i k = length text - k
 
 loop-holds : tie.Need-loop-holds Inv-loop μ-loop
 loop-holds c = search needs
@@ -28,10 +29,10 @@ add-k : tie.Need-add-k Inv-loop μ-loop
 add-k c = omega (arith, ltb-true)
 
 loop-less : tie.Need-loop-less Inv-loop μ-loop
-loop-less c = search needs
+loop-less c = omega (arith, ltb-true)
 
 loop-again : tie.Need-loop-again Inv-loop μ-loop
-loop-again c = search needs
+loop-again c = omega (arith, ltb-true)
 
 returns : tie.Need-returns Inv-loop μ-loop
 returns c = search needs

@@ -1,4 +1,4 @@
--- `cases::line::put_bytes` is safe and ends, and stays within the line. Assumes nothing.
+-- `cases::line::put_bytes` is safe and ends. Assumes nothing.
 use borrow.Author.Needs.{needs}
 use Prim.Native.Nat.{_-_, _≤_}
 use lib.ListN.{length}
@@ -6,7 +6,7 @@ use Rattle.cases.proofs.line.put_bytes.Statement.{statement}
 use Rattle.cases.proofs.line.put_bytes.Tie as tie
 
 abbrev Inv-loop : tie.InvT-loop
-Inv-loop line₀ at bytes next₀ i₀ line next i = (next ≤ 1536) × (i ≤ length bytes)
+Inv-loop line₀ at bytes next₀ i₀ line next i = i ≤ length bytes
 
 abbrev μ-loop : tie.MeasureT-loop
 μ-loop line₀ at bytes next₀ i₀ line next i = length bytes - i

@@ -1,17 +1,20 @@
--- `cases::line::put_rows` is safe and ends, and stays within the line. Assumes nothing.
+-- `cases::line::put_rows` is safe and ends. Assumes nothing.
 use borrow.Author.Needs.{needs}
 use Prim.Native.Nat.{_-_, _≤_}
 use Rattle.cases.proofs.line.put_rows.Statement.{statement}
 use Rattle.cases.proofs.line.put_rows.Tie as tie
 
 abbrev Inv-loop : tie.InvT-loop
-Inv-loop line₀ at rows next₀ i₀ line next i = (next ≤ 1536) × (i ≤ 64)
+Inv-loop line₀ at rows next₀ i₀ line next i = i ≤ 64
 
 abbrev μ-loop : tie.MeasureT-loop
 μ-loop line₀ at rows next₀ i₀ line next i = 64 - i
 
 loop-holds : tie.Need-loop-holds Inv-loop μ-loop
 loop-holds c = search needs
+
+add-put-row : tie.Need-add-put-row Inv-loop μ-loop
+add-put-row c = search needs
 
 mul-put-row : tie.Need-mul-put-row Inv-loop μ-loop
 mul-put-row c = search needs
@@ -41,6 +44,7 @@ put-rows-spec =
     Inv-loop
     μ-loop
     loop-holds
+    add-put-row
     mul-put-row
     element-copy-out-put-row
     put-row-requires

@@ -5,10 +5,10 @@ use Rattle.cases.proofs.read.read_rows.Statement.{statement}
 use Rattle.cases.proofs.read.read_rows.Tie as tie
 
 abbrev Inv-loop : tie.InvT-loop
-Inv-loop s at rows₀ i₀ rows i = i ≤ 64
+Inv-loop s at count rows₀ i₀ rows i = i ≤ count
 
 abbrev μ-loop : tie.MeasureT-loop
-μ-loop s at rows₀ i₀ rows i = 64 - i
+μ-loop s at count rows₀ i₀ rows i = count - i
 
 loop-holds : tie.Need-loop-holds Inv-loop μ-loop
 loop-holds c = search needs
