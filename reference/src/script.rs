@@ -8,6 +8,7 @@
 //! |---|---|
 //! | `O` open | limit u64, length u16, sheet bytes |
 //! | `W` work state | n, limit, place u64, mark u8, end u8, row count u8, at most 64, rows u64 |
+//! | `A` again | the last `O` or `W` once more |
 //! | `S` sweep | |
 //! | `C` chain step | |
 //! | `P` pass | seed u64 |
@@ -35,6 +36,8 @@ pub const FILLER: u8 = b'.';
 #[derive(Default)]
 pub struct Script {
     bytes: Vec<u8>,
+    /// The last command that made a state.
+    made: Vec<u8>,
 }
 
 impl Script {
@@ -43,32 +46,37 @@ impl Script {
     }
 
     pub fn open(&mut self, limit: u64, sheet: &[u8]) {
-        self.bytes.push(b'O');
-        self.bytes.extend(limit.to_le_bytes());
-        self.counted(sheet);
-    }
-
-    pub fn work(&mut self, state: &WorkState) {
-        self.bytes.push(b'W');
-        for word in [state.n, state.limit, state.place] {
-            self.bytes.extend(word.to_le_bytes());
-        }
-        self.bytes.push(u8::from(state.mark));
-        self.bytes.push(match state.end {
-            End::Open => 0,
-            End::Stable => 1,
-            End::None => 2,
-        });
-        self.rows(&state.rows);
+        self.make([&[b'O'][..], &limit.to_le_bytes(), &counted(sheet)].concat());
     }
 
     /// The rows up to the last that is not empty.
-    fn rows(&mut self, rows: &[u64; 64]) {
-        let last = rows.iter().rposition(|&row| row != 0);
-        let count = last.map_or(0, |last| last + 1);
-        self.bytes.push(count as u8);
-        for row in &rows[..count] {
-            self.bytes.extend(row.to_le_bytes());
+    pub fn work(&mut self, state: &WorkState) {
+        let last = state.rows.iter().rposition(|&row| row != 0);
+        let rows = &state.rows[..last.map_or(0, |last| last + 1)];
+        let end = match state.end {
+            End::Open => 0,
+            End::Stable => 1,
+            End::None => 2,
+        };
+        let mut command = vec![b'W'];
+        for word in [state.n, state.limit, state.place] {
+            command.extend(word.to_le_bytes());
+        }
+        command.extend([u8::from(state.mark), end, rows.len() as u8]);
+        for row in rows {
+            command.extend(row.to_le_bytes());
+        }
+        self.make(command);
+    }
+
+    /// A command that makes a state; where it is the last such command once more, one byte
+    /// says so.
+    fn make(&mut self, command: Vec<u8>) {
+        if command == self.made {
+            self.bytes.push(b'A');
+        } else {
+            self.bytes.extend(&command);
+            self.made = command;
         }
     }
 
@@ -92,7 +100,7 @@ impl Script {
 
     pub fn list(&mut self, numbers: &[u8]) {
         self.bytes.push(b'L');
-        self.counted(numbers);
+        self.bytes.extend(counted(numbers));
     }
 
     pub fn report(&mut self, length: usize) {
@@ -109,12 +117,12 @@ impl Script {
         self.bytes.push(opcode);
         self.bytes.extend(length.to_le_bytes());
     }
+}
 
-    fn counted(&mut self, bytes: &[u8]) {
-        let length = u16::try_from(bytes.len()).expect("at most 65,535 bytes");
-        self.bytes.extend(length.to_le_bytes());
-        self.bytes.extend(bytes);
-    }
+/// Bytes after their number.
+fn counted(bytes: &[u8]) -> Vec<u8> {
+    let length = u16::try_from(bytes.len()).expect("at most 65,535 bytes");
+    [&length.to_le_bytes(), bytes].concat()
 }
 
 enum Command<'a> {
@@ -132,11 +140,33 @@ enum Command<'a> {
 /// The part of a script that has not been read yet.
 struct Reader<'a> {
     rest: &'a [u8],
+    /// The script from the last command on that made a state; at first nothing.
+    made: &'a [u8],
 }
 
 impl<'a> Reader<'a> {
+    fn new(script: &'a [u8]) -> Reader<'a> {
+        Reader {
+            rest: script,
+            made: &[],
+        }
+    }
+
     /// The next command, or nothing if it is unknown or cut.
     fn command(&mut self) -> Option<Command<'a>> {
+        match self.rest.first()? {
+            b'O' | b'W' => self.made = self.rest,
+            b'A' => {
+                self.byte()?;
+                return Reader::new(self.made).written_out();
+            }
+            _ => {}
+        }
+        self.written_out()
+    }
+
+    /// The next command if all of it stands here.
+    fn written_out(&mut self) -> Option<Command<'a>> {
         Some(match self.byte()? {
             b'O' => Command::Open {
                 limit: self.word()?,
@@ -222,7 +252,7 @@ impl<'a> Reader<'a> {
 /// Answers a script command by command; at an unknown or cut one it writes
 /// `stop` and ends.
 pub fn play(calls: &impl Calls, script: &[u8], out: &mut impl Write) -> io::Result<()> {
-    let mut reader = Reader { rest: script };
+    let mut reader = Reader::new(script);
     let mut state = WorkState::BLANK;
     while !reader.rest.is_empty() {
         match reader.command() {

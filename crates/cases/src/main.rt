@@ -2,6 +2,7 @@
 //
 //   O  open        limit u64, length u16, sheet bytes
 //   W  work state  n, limit, place u64, mark u8, end u8, row count u8, at most 64, rows u64
+//   A  again       the last O or W once more
 //   S  sweep
 //   C  chain step
 //   P  pass        seed u64
@@ -34,7 +35,7 @@ use read::read_u32;
 use read::read_u64;
 ghost use denote.Ref.{now};
 ghost use mathlib.Core.Path.{_≡_};
-ghost use Prim.Native.Nat.{_+_, _*_, _≤_};
+ghost use Prim.Native.Nat.{_+_, _*_, _≤_, _<_};
 ghost use lib.ListN.{length};
 
 // The longest script; what is past it is not read.
@@ -208,7 +209,19 @@ fn write(part: &[u8], work: Work) -> Step
     fill(part, work, &mut buf)
 }
 
-fn command(part: &[u8], work: Work) -> Step
+// Where the last command that makes a state starts, up to the one at a place.
+fn last_made(opcode: u8, at: usize, made: usize) -> usize
+    requires { ⌜ made ≤ at ⌝ }
+    ensures { λ r. ⌜ r ≤ at ⌝ }
+{
+    match opcode {
+        b'O' | b'W' => at,
+        _ => made,
+    }
+}
+
+// A command that makes a state; any other is unknown here.
+fn make(part: &[u8], work: Work) -> Step
     requires { ⌜ 1 ≤ length (now part) ⌝ }
     ensures { λ r. ⌜ r .taken ≤ length (now (part .entry)) ⌝ }
 {
@@ -216,6 +229,33 @@ fn command(part: &[u8], work: Work) -> Step
     match opcode {
         b'O' => open(part, work),
         b'W' => set_work(part, work),
+        _ => stop(work),
+    }
+}
+
+// The command that starts at `made` in the script, once more.
+fn again(script: &[u8], made: usize, work: Work) -> Step
+    requires { ⌜ made < length (now script) ⌝ }
+    ensures { λ r. ⌜ r .taken ≤ 1 ⌝ }
+{
+    let step = make(&script[made..], work);
+    if step.taken == 0 {
+        return stop(work);
+    }
+    let next = step.work;
+    Step {
+        taken: 1,
+        work: next,
+    }
+}
+
+fn command(part: &[u8], work: Work) -> Step
+    requires { ⌜ 1 ≤ length (now part) ⌝ }
+    ensures { λ r. ⌜ r .taken ≤ length (now (part .entry)) ⌝ }
+{
+    let opcode = part[0];
+    match opcode {
+        b'O' | b'W' => make(part, work),
         b'S' => by_hand(b"sweep ", filter::sweep(work), 1),
         b'C' => by_hand(b"chain ", filter::chain(work), 1),
         b'P' => pass(part, work),
@@ -227,15 +267,28 @@ fn command(part: &[u8], work: Work) -> Step
     }
 }
 
+// The command at a place of the script; the last one that made a state starts at `made`.
+fn next_step(script: &[u8], at: usize, made: usize, work: Work) -> Step
+    requires { ⌜ (at < length (now script)) × (made < length (now script)) ⌝ }
+    ensures { λ r. ⌜ at + r .taken ≤ length (now (script .entry)) ⌝ }
+{
+    if script[at] == b'A' {
+        return again(script, made, work);
+    }
+    command(&script[at..], work)
+}
+
 fn play(script: &[u8]) {
     let mut work = Work::blank();
+    let mut made = 0usize;
     let mut at = 0usize;
     while at < script.len() {
-        let step = command(&script[at..], work);
+        let step = next_step(script, at, made, work);
         if step.taken == 0 {
             print(b"stop\n");
             return;
         }
+        made = last_made(script[at], at, made);
         at += step.taken;
         let next = step.work;
         work = next;

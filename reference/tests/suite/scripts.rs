@@ -125,6 +125,32 @@ fn cut_row_lists_stop() {
     }
 }
 
+/// The same state once more takes one byte, also after a call, and is answered like the
+/// first time.
+#[test]
+fn a_state_is_made_again_by_one_byte() {
+    let making: [fn(&mut Script); 2] = [
+        |script| script.open(64, &[3, 0, 0, 0]),
+        |script| script.work(&WorkState::opened(&LegTable::full(3), 64)),
+    ];
+    for make in making {
+        let mut script = Script::default();
+        make(&mut script);
+        let first = text(script.bytes());
+        script.run(9);
+        let length = script.bytes().len();
+        make(&mut script);
+        assert_eq!(script.bytes()[length..], *b"A");
+        assert!(text(script.bytes()).ends_with(&first));
+    }
+}
+
+#[test]
+fn again_stops_where_no_state_was_made() {
+    assert_eq!(text(b"A"), "stop\n");
+    assert!(text(b"SA").ends_with("\nstop\n"));
+}
+
 #[test]
 fn unknown_and_cut_commands_stop() {
     assert_eq!(text(b""), "");

@@ -35,6 +35,7 @@ fn budgets(script: &[u8]) -> Vec<u64> {
     while let Some(opcode) = rest.first() {
         let length = match opcode {
             b'W' => 28 + 8 * usize::from(rest[27]),
+            b'A' => 1,
             b'R' => 5,
             _ => panic!("neither a state nor a run"),
         };

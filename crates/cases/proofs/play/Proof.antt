@@ -6,10 +6,10 @@ use Rattle.cases.proofs.play.Statement.{statement}
 use Rattle.cases.proofs.play.Tie as tie
 
 abbrev Inv-loop : tie.InvT-loop
-Inv-loop script work₀ at₀ t6 work at = at ≤ length script
+Inv-loop script work₀ made₀ at₀ t7 work made at = (at ≤ length script) × (made ≤ at)
 
 abbrev μ-loop : tie.MeasureT-loop
-μ-loop script work₀ at₀ t6 work at = length script - at
+μ-loop script work₀ made₀ at₀ t7 work made at = length script - at
 
 blank-requires : tie.Need-blank-requires Inv-loop μ-loop
 blank-requires c κs = search needs
@@ -17,17 +17,8 @@ blank-requires c κs = search needs
 loop-holds : tie.Need-loop-holds Inv-loop μ-loop
 loop-holds c = search needs
 
-sub-command : tie.Need-sub-command Inv-loop μ-loop
-sub-command c = search needs
-
-part-command-start : tie.Need-part-command-start Inv-loop μ-loop
-part-command-start c = search needs
-
-part-command-end : tie.Need-part-command-end Inv-loop μ-loop
-part-command-end c = search needs
-
-command-requires : tie.Need-command-requires Inv-loop μ-loop
-command-requires c κs = search needs
+next-step-requires : tie.Need-next-step-requires Inv-loop μ-loop
+next-step-requires c κs = search needs
 
 slice-aggregate-print : tie.Need-slice-aggregate-print Inv-loop μ-loop
 slice-aggregate-print c = search needs
@@ -37,6 +28,12 @@ print-requires c κs = search needs
 
 returns : tie.Need-returns Inv-loop μ-loop
 returns c = search needs
+
+shared-slice-read-last-made : tie.Need-shared-slice-read-last-made Inv-loop μ-loop
+shared-slice-read-last-made c = search needs
+
+last-made-requires : tie.Need-last-made-requires Inv-loop μ-loop
+last-made-requires c κs = search needs
 
 add-at : tie.Need-add-at Inv-loop μ-loop
 add-at c = search needs
@@ -58,13 +55,12 @@ play-spec =
     μ-loop
     blank-requires
     loop-holds
-    sub-command
-    part-command-start
-    part-command-end
-    command-requires
+    next-step-requires
     slice-aggregate-print
     print-requires
     returns
+    shared-slice-read-last-made
+    last-made-requires
     add-at
     loop-less
     loop-again
