@@ -8,6 +8,7 @@ mod draw;
 mod islands;
 mod made;
 pub mod neighbours;
+pub mod turns;
 pub mod valleys;
 mod watch;
 mod written;
@@ -20,6 +21,7 @@ use self::ceilings::CeilingCounts;
 use self::difference::Step;
 use self::made::{Kind, Known};
 use self::neighbours::NeighbourCounts;
+use self::turns::TurnCounts;
 use self::valleys::ValleyCounts;
 use self::watch::Watch;
 use crate::calls::{Calls, Fast, Plain};
@@ -56,6 +58,7 @@ pub struct Counts {
     pub valleys: ValleyCounts,
     pub written: WrittenCounts,
     pub ceilings: CeilingCounts,
+    pub turns: TurnCounts,
 }
 
 /// Chain steps by hand that were not refused, by what they did.
@@ -108,6 +111,7 @@ impl Counts {
         self.valleys.add(&other.valleys);
         self.written.add(&other.written);
         self.ceilings.add(&other.ceilings);
+        self.turns.add(&other.turns);
     }
 
     /// What is still missing of the calls that so many sheets have.
@@ -120,6 +124,8 @@ impl Counts {
             Some("written sheets")
         } else if !self.ceilings.complete() {
             Some("ceilings")
+        } else if !self.turns.complete() {
+            Some("turns")
         } else {
             None
         }
@@ -259,13 +265,14 @@ impl Session<'_> {
         Ok(())
     }
 
-    /// Writes, runs with their ceiling and a chain step on the opened state, on some
-    /// tables passes and other runs too, then calls in any order, the whole run, and more
-    /// calls on the ended state: some of any kind, then reports and writes into buffers of
-    /// every length that matters.
+    /// Writes, runs with their ceiling, runs in turns and a chain step on the opened state,
+    /// on some tables passes and other runs too, then calls in any order, the whole run, and
+    /// more calls on the ended state: runs in turns, some of any kind, then reports and
+    /// writes into buffers of every length that matters.
     fn sequence(&mut self) -> Found<()> {
         self.writes()?;
         self.ceilings_and_back()?;
+        self.turns_and_back()?;
         self.chain_and_back()?;
         match self.made.kind {
             Kind::Any => {}
@@ -282,6 +289,7 @@ impl Session<'_> {
         }
         let budget = u32::MAX;
         self.call(Call::Run { budget })?;
+        self.split_and_back()?;
         for _ in 0..3 {
             self.any_call()?;
         }
@@ -341,11 +349,12 @@ impl Session<'_> {
         self.any_call()
     }
 
-    /// All calls on a bad state, then back to the good one.
+    /// Runs in turns and all calls on a bad state, then back to the good one.
     fn bad_state(&mut self) -> Found<()> {
         let kept = self.state;
         let spoilt = draw::spoilt(&mut self.rng, &kept);
         self.put(spoilt);
+        self.split_and_back()?;
         self.each_call()?;
         self.put(kept);
         Ok(())
@@ -363,6 +372,7 @@ impl Session<'_> {
         self.put(moved);
         self.writes()?;
         self.chain_and_back()?;
+        self.turns_of_no_opening()?;
         for _ in 0..4 {
             self.any_call()?;
         }
