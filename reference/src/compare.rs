@@ -272,7 +272,7 @@ impl Session<'_> {
     fn sequence(&mut self) -> Found<()> {
         self.writes()?;
         self.ceilings_and_back()?;
-        self.turns_and_back()?;
+        self.turns_from_the_start()?;
         self.chain_and_back()?;
         match self.made.kind {
             Kind::Any => {}
@@ -289,7 +289,7 @@ impl Session<'_> {
         }
         let budget = u32::MAX;
         self.call(Call::Run { budget })?;
-        self.split_and_back()?;
+        self.turns_and_back()?;
         for _ in 0..3 {
             self.any_call()?;
         }
@@ -354,7 +354,7 @@ impl Session<'_> {
         let kept = self.state;
         let spoilt = draw::spoilt(&mut self.rng, &kept);
         self.put(spoilt);
-        self.split_and_back()?;
+        self.turns_and_back()?;
         self.each_call()?;
         self.put(kept);
         Ok(())

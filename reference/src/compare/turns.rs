@@ -62,48 +62,49 @@ impl TurnCounts {
 impl Session<'_> {
     /// Turns that the following calls don't see, from the opened state and from one in
     /// mid-cycle.
-    pub fn turns_and_back(&mut self) -> Found<()> {
+    pub fn turns_from_the_start(&mut self) -> Found<()> {
         let kept = self.state;
         let amid = draw::amid(&mut self.rng, &kept);
         for state in [kept, amid] {
             self.put(state);
-            if self.has_turns() {
-                self.split_and_back()?;
-            }
+            self.turns_and_back()?;
         }
         self.put(kept);
         Ok(())
     }
 
-    /// The same from the current state, that no opening gives.
+    /// The same from the current state, which no opening gives.
     pub fn turns_of_no_opening(&mut self) -> Found<()> {
-        if self.has_turns() {
+        let others = self.counts.turns.splits;
+        self.turns_and_back()?;
+        self.counts.turns.of_no_opening += self.counts.turns.splits - others;
+        Ok(())
+    }
+
+    /// The same from the current state. Plain runs on many stations take long, so few of
+    /// them are made in turns.
+    pub fn turns_and_back(&mut self) -> Found<()> {
+        let chance = match self.state.n {
+            0..=8 => 100,
+            9..=12 => 30,
+            13..=24 => 6,
+            _ => 3,
+        };
+        if self.rng.percent(chance) {
             self.split_and_back()?;
-            self.counts.turns.of_no_opening += 1;
         }
         Ok(())
     }
 
-    /// Plain runs on many stations take long, so few of them are made in turns.
-    fn has_turns(&mut self) -> bool {
-        let chance = match self.state.n {
-            0..=12 => 100,
-            13..=24 => 25,
-            _ => 10,
-        };
-        self.rng.percent(chance)
-    }
-
-    /// Turns and one run, both from the current state, that the following calls don't
-    /// see.
-    pub fn split_and_back(&mut self) -> Found<()> {
+    /// Turns and one run with the sum of their budgets, both from the current state.
+    fn split_and_back(&mut self) -> Found<()> {
         let kept = self.state;
         let budgets = split_budget(&mut self.rng, &kept);
         let budget = budget_of(&budgets).expect("parts of a budget");
         let turns = self.take_turns(&budgets)?;
         self.put(kept);
         let one = self.run(budget)?;
-        // The state of the last call, if that is told of.
+        // A difference tells the answers of others to the last call, on its state.
         self.state = kept;
         if let Some(reason) = fault(&turns, &one) {
             return Err(self.difference(reason, &Answer::Ran(one)));

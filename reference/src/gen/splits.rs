@@ -45,12 +45,15 @@ impl Lengths {
         }
     }
 
-    /// Where a budget is cut: at its start, at its end, in the run or anywhere.
+    /// Where a budget is cut: at its start, at its end, in the first cycle, in the run
+    /// or anywhere.
     fn cut(self, rng: &mut Xorshift, budget: u32) -> u32 {
         let most = match rng.below(10) {
             0 => return 0,
             1 => return budget,
             2 => budget,
+            3 | 4 => budget.min(self.cycle),
+            _ if self.steps == 0 => budget.min(self.cycle),
             _ => budget.min(self.steps),
         };
         rng.between(0, most as usize) as u32
