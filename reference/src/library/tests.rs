@@ -239,7 +239,7 @@ fn lent_words(rng: &mut Xorshift, state: &WorkState) -> (Vec<u64>, bool) {
 #[test]
 fn runs_in_turns_on_the_same_words_leave_what_one_run_leaves() {
     let mut rng = Xorshift::new(35);
-    let mut refused = 0;
+    let (mut refused, mut cut) = (0, 0);
     for _ in 0..24_000 {
         let state = any_state(&mut rng);
         let budgets = split_budget(&mut rng, &state);
@@ -256,12 +256,13 @@ fn runs_in_turns_on_the_same_words_leave_what_one_run_leaves() {
         assert_eq!(one.words[STATE_WORDS..], words[STATE_WORDS..]);
         one.numbers = vec![number.into(); budgets.len()];
         assert_eq!(run_on_words(&words, &budgets), one);
+        cut += u32::from((1..one.steps).contains(&budgets[0].into()));
         if bad {
             assert_eq!((one.words, one.steps, one.removed), (words, 0, 0));
             refused += 1;
         }
     }
-    assert!(refused > 3_000);
+    assert!(refused > 3_000 && cut > 3_000);
 }
 
 #[test]
