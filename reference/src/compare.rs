@@ -178,6 +178,7 @@ fn go_through(tested: &dyn Calls, seed: u64, index: u64, judge: Judge) -> Found<
         made,
         state: WorkState::BLANK,
         watch: Watch::nothing(),
+        in_turns: false,
         steps: Vec::new(),
         counts: Counts::default(),
     };
@@ -199,6 +200,8 @@ struct Session<'a> {
     made: Made,
     state: WorkState,
     watch: Watch,
+    /// Are the runs those of a split budget?
+    in_turns: bool,
     steps: Vec<Step>,
     counts: Counts,
 }
@@ -354,7 +357,7 @@ impl Session<'_> {
         let kept = self.state;
         let spoilt = draw::spoilt(&mut self.rng, &kept);
         self.put(spoilt);
-        self.turns_and_back()?;
+        self.split_and_back()?;
         self.each_call()?;
         self.put(kept);
         Ok(())
@@ -452,6 +455,8 @@ impl Session<'_> {
         let chance = match (call, self.state.n) {
             (Call::Open { .. } | Call::OpenWritten { .. } | Call::Write { .. }, _) => 100,
             (_, 0..=12) => 100,
+            (Call::Run { budget: 5.. }, 13..=24) if self.in_turns => 5,
+            (Call::Run { budget: 5.. }, 25..=64) if self.in_turns => 1,
             (Call::Run { .. }, 13..=24) => 50,
             (Call::Print { .. }, 13..=24) => 15,
             (Call::Print { .. }, 25..=64) => 2,

@@ -81,14 +81,13 @@ impl Session<'_> {
         Ok(())
     }
 
-    /// The same from the current state. Plain runs on many stations take long, so few of
-    /// them are made in turns.
+    /// The same from the current state. Two whole runs on many stations take long, so few
+    /// of them are made.
     pub fn turns_and_back(&mut self) -> Found<()> {
         let chance = match self.state.n {
-            0..=8 => 100,
-            9..=12 => 30,
-            13..=24 => 6,
-            _ => 3,
+            0..=8 => 50,
+            9..=24 => 20,
+            _ => 8,
         };
         if self.rng.percent(chance) {
             self.split_and_back()?;
@@ -96,14 +95,17 @@ impl Session<'_> {
         Ok(())
     }
 
-    /// Turns and one run with the sum of their budgets, both from the current state.
-    fn split_and_back(&mut self) -> Found<()> {
+    /// Turns and one run with the sum of their budgets, both from the current state, that
+    /// the following calls don't see.
+    pub fn split_and_back(&mut self) -> Found<()> {
         let kept = self.state;
         let budgets = split_budget(&mut self.rng, &kept);
         let budget = budget_of(&budgets).expect("parts of a budget");
+        self.in_turns = true;
         let turns = self.take_turns(&budgets)?;
         self.put(kept);
         let one = self.run(budget)?;
+        self.in_turns = false;
         // A difference tells the answers of others to the last call, on its state.
         self.state = kept;
         if let Some(reason) = fault(&turns, &one) {

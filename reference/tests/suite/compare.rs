@@ -67,9 +67,9 @@ fn fast_calls_differ_nowhere() {
         assert_eq!(counts.missing(1_000), Some("ceilings"));
     }
     let turns = &counts.turns;
-    assert!(turns.splits > 1_000 && turns.marked > 150 && turns.ended_before > 300);
-    assert!(turns.with_zero > 500 && turns.largest > 150);
-    assert!(turns.refused > 100 && turns.of_no_opening > 100);
+    assert!(turns.splits > 800 && turns.marked > 100 && turns.ended_before > 150);
+    assert!(turns.with_zero > 500 && turns.largest > 100);
+    assert!(turns.refused > 200 && turns.of_no_opening > 50);
     for turns in without_one_kind(&counts.turns) {
         let counts = Counts {
             turns,

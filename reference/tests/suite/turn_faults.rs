@@ -142,6 +142,17 @@ fn the_watch_tells_what_does_not_add_up() {
     }
 }
 
+/// The last call told is the one run, with what others answer to it.
+#[test]
+fn the_watch_tells_the_one_run() {
+    let calls = Fault::StepUncounted.calls();
+    let found = (0..60).find_map(|index| watch_sheet(&calls, 1, index).err());
+    let text = found.expect("a difference").to_string();
+    let answer = |who: &str| text.lines().find_map(|line| line.strip_prefix(who));
+    let (fast, plain) = (answer("  fast: "), answer("  plain: "));
+    assert!(fast.is_some() && fast == plain && !text.contains("steps 0"));
+}
+
 /// Beside other calls they are differences.
 #[test]
 fn the_comparison_finds_each_fault_of_turns() {
