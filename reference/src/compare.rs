@@ -8,6 +8,7 @@ mod draw;
 mod islands;
 mod made;
 pub mod neighbours;
+pub mod turns;
 pub mod valleys;
 mod watch;
 mod written;
@@ -20,6 +21,7 @@ use self::ceilings::CeilingCounts;
 use self::difference::Step;
 use self::made::{Kind, Known};
 use self::neighbours::NeighbourCounts;
+use self::turns::TurnCounts;
 use self::valleys::ValleyCounts;
 use self::watch::Watch;
 use crate::calls::{Calls, Fast, Plain};
@@ -56,6 +58,7 @@ pub struct Counts {
     pub valleys: ValleyCounts,
     pub written: WrittenCounts,
     pub ceilings: CeilingCounts,
+    pub turns: TurnCounts,
 }
 
 /// Chain steps by hand that were not refused, by what they did.
@@ -108,6 +111,7 @@ impl Counts {
         self.valleys.add(&other.valleys);
         self.written.add(&other.written);
         self.ceilings.add(&other.ceilings);
+        self.turns.add(&other.turns);
     }
 
     /// What is still missing of the calls that so many sheets have.
@@ -120,6 +124,8 @@ impl Counts {
             Some("written sheets")
         } else if !self.ceilings.complete() {
             Some("ceilings")
+        } else if !self.turns.complete() {
+            Some("turns")
         } else {
             None
         }
@@ -172,6 +178,7 @@ fn go_through(tested: &dyn Calls, seed: u64, index: u64, judge: Judge) -> Found<
         made,
         state: WorkState::BLANK,
         watch: Watch::nothing(),
+        in_turns: false,
         steps: Vec::new(),
         counts: Counts::default(),
     };
@@ -193,6 +200,8 @@ struct Session<'a> {
     made: Made,
     state: WorkState,
     watch: Watch,
+    /// Are the runs those of a split budget?
+    in_turns: bool,
     steps: Vec<Step>,
     counts: Counts,
 }
@@ -259,13 +268,14 @@ impl Session<'_> {
         Ok(())
     }
 
-    /// Writes, runs with their ceiling and a chain step on the opened state, on some
-    /// tables passes and other runs too, then calls in any order, the whole run, and more
-    /// calls on the ended state: some of any kind, then reports and writes into buffers of
-    /// every length that matters.
+    /// Writes, runs with their ceiling, runs in turns and a chain step on the opened state,
+    /// on some tables passes and other runs too, then calls in any order, the whole run, and
+    /// more calls on the ended state: runs in turns, some of any kind, then reports and
+    /// writes into buffers of every length that matters.
     fn sequence(&mut self) -> Found<()> {
         self.writes()?;
         self.ceilings_and_back()?;
+        self.turns_from_the_start()?;
         self.chain_and_back()?;
         match self.made.kind {
             Kind::Any => {}
@@ -282,6 +292,7 @@ impl Session<'_> {
         }
         let budget = u32::MAX;
         self.call(Call::Run { budget })?;
+        self.turns_and_back()?;
         for _ in 0..3 {
             self.any_call()?;
         }
@@ -341,11 +352,12 @@ impl Session<'_> {
         self.any_call()
     }
 
-    /// All calls on a bad state, then back to the good one.
+    /// Runs in turns and all calls on a bad state, then back to the good one.
     fn bad_state(&mut self) -> Found<()> {
         let kept = self.state;
         let spoilt = draw::spoilt(&mut self.rng, &kept);
         self.put(spoilt);
+        self.split_and_back()?;
         self.each_call()?;
         self.put(kept);
         Ok(())
@@ -363,6 +375,7 @@ impl Session<'_> {
         self.put(moved);
         self.writes()?;
         self.chain_and_back()?;
+        self.turns_of_no_opening()?;
         for _ in 0..4 {
             self.any_call()?;
         }
@@ -442,6 +455,8 @@ impl Session<'_> {
         let chance = match (call, self.state.n) {
             (Call::Open { .. } | Call::OpenWritten { .. } | Call::Write { .. }, _) => 100,
             (_, 0..=12) => 100,
+            (Call::Run { budget: 5.. }, 13..=24) if self.in_turns => 5,
+            (Call::Run { budget: 5.. }, 25..=64) if self.in_turns => 1,
             (Call::Run { .. }, 13..=24) => 50,
             (Call::Print { .. }, 13..=24) => 15,
             (Call::Print { .. }, 25..=64) => 2,

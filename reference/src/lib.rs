@@ -31,6 +31,7 @@ pub mod sheet;
 pub mod state;
 pub mod sweep;
 pub mod table;
+pub mod turns;
 pub mod vectors;
 pub mod words;
 pub mod written;

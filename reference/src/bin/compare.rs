@@ -3,7 +3,7 @@
 //! `compare [--seed S] [--sheets COUNT]` goes through that many made-up sheets,
 //! `compare --seed S --sheet K` through a single one of them again. A difference
 //! ends it with status 1, and so does, after many sheets, a count of neighbours, of
-//! written sheets or of ceilings that is still 0, or too few tables of valleys.
+//! written sheets, of ceilings or of turns that is still 0, or too few tables of valleys.
 
 use std::process::ExitCode;
 use std::str::FromStr;
@@ -162,6 +162,11 @@ fn tell(seed: u64, sheets: u64, counts: &Counts) {
     println!(
         "  ceilings: {} runs with a budget of at least their ceiling, {} of them from mid-cycle, {} with just the ceiling, {} with that of the program; largest ratio {}, from mid-cycle {}",
         ceilings.runs(), from_mid_cycle.count, ceilings.just, ceilings.program, from_start.nearest, from_mid_cycle.nearest
+    );
+    let turns = &counts.turns;
+    println!(
+        "  turns: {} split budgets, {} cut in mid-cycle with the mark set, {} ended before the last turn, {} with a turn of 0, {} with the sum 4294967295, {} on bad states with 7 each time, {} from states that no opening gives",
+        turns.splits, turns.marked, turns.ended_before, turns.with_zero, turns.largest, turns.refused, turns.of_no_opening
     );
 }
 

@@ -5,7 +5,7 @@
 //! of turns. A row has at least two of them.
 
 use crate::fast;
-use crate::gen::{band, long_runs, plant_round, Family, Xorshift};
+use crate::gen::{band, cut_at, long_runs, plant_round, Family, Xorshift};
 use crate::paper;
 use crate::program::LIMIT;
 use crate::script::Script;
@@ -74,7 +74,7 @@ fn steps(state: &WorkState) -> u32 {
 }
 
 fn cut(budget: u32, at: u32) -> Turns {
-    vec![at, budget - at]
+    cut_at(budget, vec![at])
 }
 
 /// Turns of the same length, and what is left of the budget, also where it is 0.
@@ -191,12 +191,8 @@ fn bad_states(script: &mut Script) {
 /// A budget in parts at random; a part may be 0.
 fn parts(rng: &mut Xorshift, budget: u32) -> Turns {
     let count = rng.between(1, 4);
-    let mut cuts: Vec<u32> = (0..count)
-        .map(|_| rng.below(budget as usize + 1) as u32)
-        .collect();
-    cuts.extend([0, budget]);
-    cuts.sort_unstable();
-    cuts.windows(2).map(|pair| pair[1] - pair[0]).collect()
+    let cuts = (0..count).map(|_| rng.below(budget as usize + 1) as u32);
+    cut_at(budget, cuts.collect())
 }
 
 /// A table with a round, at any place with any mark, whose run strikes legs after its

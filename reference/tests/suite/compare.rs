@@ -3,6 +3,7 @@
 use std::collections::BTreeSet;
 
 use reference::compare::ceilings::CeilingCounts;
+use reference::compare::turns::TurnCounts;
 use reference::compare::{compare_sheet, Counts};
 use reference::filled::fill;
 use reference::gen::{any_table, Sheet, Xorshift};
@@ -65,6 +66,17 @@ fn fast_calls_differ_nowhere() {
         };
         assert_eq!(counts.missing(1_000), Some("ceilings"));
     }
+    let turns = &counts.turns;
+    assert!(turns.splits > 800 && turns.marked > 100 && turns.ended_before > 150);
+    assert!(turns.with_zero > 500 && turns.largest > 100);
+    assert!(turns.refused > 200 && turns.of_no_opening > 50);
+    for turns in without_one_kind(&counts.turns) {
+        let counts = Counts {
+            turns,
+            ..counts.clone()
+        };
+        assert_eq!(counts.missing(1_000), Some("turns"));
+    }
 }
 
 fn without_one_count(ceilings: &CeilingCounts) -> [CeilingCounts; 4] {
@@ -73,6 +85,18 @@ fn without_one_count(ceilings: &CeilingCounts) -> [CeilingCounts; 4] {
     without[1].from_mid_cycle.count = 0;
     without[2].just = 0;
     without[3].program = 0;
+    without
+}
+
+fn without_one_kind(turns: &TurnCounts) -> [TurnCounts; 7] {
+    let mut without = [(); 7].map(|()| turns.clone());
+    without[0].splits = 0;
+    without[1].marked = 0;
+    without[2].ended_before = 0;
+    without[3].with_zero = 0;
+    without[4].largest = 0;
+    without[5].refused = 0;
+    without[6].of_no_opening = 0;
     without
 }
 
