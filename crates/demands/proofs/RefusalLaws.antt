@@ -58,7 +58,8 @@ hand-refused w r =
     kept c = Refusal (c .answer) → c ≡ unchanged (c .answer) w
 
 pub run-refused : (w : Work) (budget : ℕ) → Refusal (runCall w budget .answer) → runCall w budget ≡ idle (runCall w budget .answer) w
-run-refused w budget = runCall-cases (λ (r : Ran). Refusal (r .answer) → r ≡ idle (r .answer) w) w budget (λ _ _. refl) (λ _ h. absurd (h (run-taken budget w)))
+run-refused w budget =
+    runCall-cases (λ (r : Ran). Refusal (r .answer) → r ≡ idle (r .answer) w) w budget (λ _ _. refl) (λ _ h. absurd (h (run-taken budget w)))
 
 -- ---- the list check, the report and the sheet written back
 

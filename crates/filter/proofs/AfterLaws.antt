@@ -36,11 +36,12 @@ left-le w v sub = omega (arith, legs-le (w .n) (v .left) (rowsOf w) sub)
 
 -- ---- a run
 
-pub runFrom-cases : (P : Ran → Type 0) (b : ℕ) (w : Work) → (isOpen (w .end) ≡ true → P (onward (step w) (runFrom b (step w .work)))) → (isOpen (w .end) ≡ false → P (idle Taken w))
-    → P (runFrom (suc b) w)
+pub runFrom-cases : (P : Ran → Type 0) (b : ℕ) (w : Work) → (isOpen (w .end) ≡ true → P (onward (step w) (runFrom b (step w .work))))
+    → (isOpen (w .end) ≡ false → P (idle Taken w)) → P (runFrom (suc b) w)
 unfolding runFrom
 runFrom-cases P b w = cond-elim P (isOpen (w .end)) (onward (step w) (runFrom b (step w .work))) (idle Taken w)
 
-pub runCall-cases : (P : Ran → Type 0) (w : Work) (budget : ℕ) → (bad w ≡ true → P (idle BadWork w)) → (bad w ≡ false → P (runFrom budget w)) → P (runCall w budget)
+pub runCall-cases : (P : Ran → Type 0) (w : Work) (budget : ℕ) → (bad w ≡ true → P (idle BadWork w)) → (bad w ≡ false → P (runFrom budget w))
+    → P (runCall w budget)
 unfolding runCall
 runCall-cases P w budget = cond-elim P (bad w) (idle BadWork w) (runFrom budget w)

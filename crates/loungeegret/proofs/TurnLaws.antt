@@ -32,8 +32,8 @@ turns-on : (o s : List ℕ) (r : Ran) (bs : List ℕ) → Holds o s (r .work) �
 unfolding turnsOn turns handed
 turns-on o s r [] H = refl
 turns-on o s r (b ∷ bs) H =
-    turns-on o (wordsHanded s (running b)) (both r (runCall (loaded s) b)) bs (handed-holds o s (loaded s) (subst (Holds o s) (sym (H .is)) H) (running b))
-    ∙ ap (λ (w : Work). turns (both r (runCall w b)) bs) (H .is)
+    let holds = handed-holds o s (loaded s) (subst (Holds o s) (sym (H .is)) H) (running b) in
+    turns-on o (wordsHanded s (running b)) (both r (runCall (loaded s) b)) bs holds ∙ ap (λ (w : Work). turns (both r (runCall w b)) bs) (H .is)
 
 -- ---- the words
 
@@ -69,14 +69,14 @@ module _ (s : List ℕ) (h : stateWords ≤ length s) where
   run-holds : (cs : List Call) → NoneByHand cs → Holds s (wordsAll s cs) (runCall w (budgetsOf cs) .work)
   run-holds cs none = subst (Holds s (wordsAll s cs)) (one-run w cs none) (all-hold s s w held cs)
 
+  -- both hold the same state, and are its words where it is not bad
   words : (cs : List Call) → NoneByHand cs → wordsAll s cs ≡ wordsHanded s (running (budgetsOf cs))
   unfolding handed
   words cs none =
       let b = budgetsOf cs in
+      let of : (x : List ℕ) → Holds s x (runCall w b .work) → bad w ≡ false → x ≡ storedIn s (runCall w b .work) = λ x H e. holds-words s x (runCall w b .work) H (run-stays w b ∙ e) in
       ⊎-elim (λ e. bad-all s e h cs ∙ sym (bad-handed s e h (running b)))
-      (λ e.
-      let kept = run-stays w b ∙ e in
-      holds-words s (wordsAll s cs) (runCall w b .work) (run-holds cs none) kept ∙ sym (holds-words s (wordsHanded s (running b)) (runCall w b .work) (handed-holds s s w held (running b)) kept))
+      (λ e. of (wordsAll s cs) (run-holds cs none) e ∙ sym (of (wordsHanded s (running b)) (handed-holds s s w held (running b)) e))
       (cases (bad w))
 
   pub turns-add : TurnsAdd s
