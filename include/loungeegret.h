@@ -120,7 +120,8 @@ uint32_t loungeegret_pass(uint64_t *state, size_t state_length, size_t seed, uin
  * Short turns: with a smaller budget, where the end is still LOUNGEEGRET_OPEN the budget is used up, and the same call again goes on
  * from there. Turns leave the words that one run with the sum of their budgets leaves, what they write to `*steps` and `*removed`
  * adds up to what it writes, and each answers the number that it answers; a run with budget 0 changes no word (proved: turns-add).
- * List checks, reports and written sheets may come between turns, a sweep, a chain step or a pass by hand may not.
+ * List checks, reports and written sheets may come between turns, a sweep, a chain step or a pass by hand may not. Longer turns are
+ * cheaper: what a run learns of passes that change nothing is forgotten where a turn ends.
  */
 uint32_t loungeegret_run(uint64_t *state, size_t state_length, uint32_t budget,
                          uint32_t *steps, uint32_t *removed);
