@@ -1,9 +1,10 @@
-//! Tables, sheets and split budgets made from a seed, the same ones on every machine.
+//! Tables, sheets, states and split budgets made from a seed, the same ones on every machine.
 
 mod grids;
 mod long_runs;
 mod shapes;
 mod splits;
+mod states;
 mod valleys;
 
 use std::ops::RangeInclusive;
@@ -14,6 +15,7 @@ use crate::table::{Leg, LegTable};
 pub use self::long_runs::long_runs;
 pub use self::shapes::{band, Shape, Ways, SHAPES};
 pub use self::splits::{cut_at, split_budget};
+pub use self::states::any_state;
 pub use self::valleys::{long_dead_end, long_valley, no_way_left, one_way_valleys};
 pub use self::valleys::{road_with_gap, through_one_station, way_outside, way_struck_before};
 

@@ -9,7 +9,7 @@ pub fn print(text: &[u8]) {
     io::write_all(STDOUT_FILENO, text);
 }
 
-// Writes a text up to a place, or all of it. The length of a part is known by itself where its start is written, 0 too.
+// Writes a text up to a place, or all of it. Of a part whose start is written, also 0, the length needs no proof.
 fn print_part(text: &[u8], at: usize) {
     if at < text.len() {
         print(&text[0..at]);

@@ -15,27 +15,29 @@
 // or cut command, or an argument out of its range, is answered by `stop`, and ends the script.
 mod answer;
 mod line;
+mod made;
 mod read;
+mod step;
 
 use answer::print_called;
 use answer::print_checked;
 use answer::print_filled;
-use answer::print_opened;
 use answer::print_ran;
-use answer::print_work;
-use circuit::End;
-use circuit::Table;
 use circuit::Work;
 use filter::Called;
 use libc::STDIN_FILENO;
 use line::print;
-use read::read_rows;
+use made::again;
+use made::last_made;
+use made::make;
 use read::read_u16;
 use read::read_u32;
 use read::read_u64;
+use step::Step;
+use step::stop;
 ghost use denote.Ref.{now};
 ghost use mathlib.Core.Path.{_≡_};
-ghost use Prim.Native.Nat.{_+_, _*_, _≤_, _<_};
+ghost use Prim.Native.Nat.{_+_, _≤_, _<_};
 ghost use lib.ListN.{length};
 
 // The longest script; what is past it is not read.
@@ -46,90 +48,6 @@ const REPORT: usize = 16384;
 
 // The longest buffer of a written sheet.
 const SHEET: usize = 640;
-
-// An opcode, three words, the mark, the end and the row count. A contract writes it out.
-const WORK_HEAD: usize = 28;
-
-// How many bytes a command took, 0 where it stops the script, and the state after it. The functions below take the part of the
-// script that starts with their command.
-struct Step {
-    taken: usize,
-    work: Work,
-}
-
-fn stop(work: Work) -> Step
-    ensures { λ r. ⌜ r .taken ≡ 0 ⌝ }
-{
-    Step { taken: 0, work }
-}
-
-// A cast of an element in place would ask that it fits; of a parameter that is known.
-fn end_of(code: u8) -> End {
-    End::of_code(code as u64)
-}
-
-fn open(part: &[u8], work: Work) -> Step
-    ensures { λ r. ⌜ r .taken ≤ length (now (part .entry)) ⌝ }
-{
-    if part.len() < 11 {
-        return stop(work);
-    }
-    let limit = read_u64(part, 1) as usize;
-    let end = 11 + read_u16(part, 9) as usize;
-    if part.len() < end {
-        return stop(work);
-    }
-    let opened = sheet::open(&part[11..end], limit);
-    print_opened(opened);
-    let next = opened.work;
-    Step {
-        taken: end,
-        work: next,
-    }
-}
-
-// The state of a command that is whole and has so many rows.
-fn read_work(part: &[u8], count: usize) -> Work
-    requires { ⌜ (count ≤ 64) × (28 + 8 * count ≤ length (now part)) ⌝ }
-{
-    let mark = part[25];
-    let end = part[26];
-    let table = Table {
-        rows: read_rows(part, WORK_HEAD, count),
-    };
-    Work::new(
-        read_u64(part, 1) as usize,
-        table,
-        read_u64(part, 9) as usize,
-        read_u64(part, 17) as usize,
-        mark == 1,
-        end_of(end),
-    )
-}
-
-fn set_work(part: &[u8], work: Work) -> Step
-    ensures { λ r. ⌜ r .taken ≤ length (now (part .entry)) ⌝ }
-{
-    if part.len() < WORK_HEAD {
-        return stop(work);
-    }
-    if 1 < part[25] || 2 < part[26] {
-        return stop(work);
-    }
-    // Tested by itself: of a test behind `||` the check keeps nothing.
-    let count = part[27];
-    if 64 < count {
-        return stop(work);
-    }
-    let count = count as usize;
-    let taken = WORK_HEAD + 8 * count;
-    if part.len() < taken {
-        return stop(work);
-    }
-    let next = read_work(part, count);
-    print_work(next);
-    Step { taken, work: next }
-}
 
 // A rule called by hand by a command of so many bytes, and its answer.
 fn by_hand(name: &[u8], called: Called, taken: usize) -> Step
@@ -207,46 +125,6 @@ fn write(part: &[u8], work: Work) -> Step
 {
     let mut buf = [b'.'; SHEET];
     fill(part, work, &mut buf)
-}
-
-// Where the last command that makes a state starts, up to the one at a place.
-fn last_made(opcode: u8, at: usize, made: usize) -> usize
-    requires { ⌜ made ≤ at ⌝ }
-    ensures { λ r. ⌜ r ≤ at ⌝ }
-{
-    match opcode {
-        b'O' | b'W' => at,
-        _ => made,
-    }
-}
-
-// A command that makes a state; any other is unknown here.
-fn make(part: &[u8], work: Work) -> Step
-    requires { ⌜ 1 ≤ length (now part) ⌝ }
-    ensures { λ r. ⌜ r .taken ≤ length (now (part .entry)) ⌝ }
-{
-    let opcode = part[0];
-    match opcode {
-        b'O' => open(part, work),
-        b'W' => set_work(part, work),
-        _ => stop(work),
-    }
-}
-
-// The command that starts at `made` in the script, once more.
-fn again(script: &[u8], made: usize, work: Work) -> Step
-    requires { ⌜ made < length (now script) ⌝ }
-    ensures { λ r. ⌜ r .taken ≤ 1 ⌝ }
-{
-    let step = make(&script[made..], work);
-    if step.taken == 0 {
-        return stop(work);
-    }
-    let next = step.work;
-    Step {
-        taken: 1,
-        work: next,
-    }
 }
 
 fn command(part: &[u8], work: Work) -> Step

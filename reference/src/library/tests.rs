@@ -7,9 +7,10 @@ use std::collections::BTreeSet;
 
 use super::{measured, raw, NO_STATE};
 use crate::calls::Fast;
-use crate::card;
+use crate::card::{self, Number};
 use crate::filled::fill;
-use crate::gen::{any_table, ring, split_budget, wide_islands, Family, Sheet, Xorshift};
+use crate::gen::{any_state, any_table, ring, split_budget};
+use crate::gen::{wide_islands, Family, Sheet, Xorshift};
 use crate::paper::{NINE_LEGS, NINE_LEGS_OUTPUT};
 use crate::program::{self, BUDGET, PRINT_MOST};
 use crate::state::{End, Rows, WorkState};
@@ -192,18 +193,11 @@ fn run_on_words(words: &[u64], budgets: &[u32]) -> Leaves {
     leaves
 }
 
-/// A table at any place, with any mark, end and limit.
-fn any_state(rng: &mut Xorshift) -> WorkState {
+/// Small ones are more common.
+fn drawn_state(rng: &mut Xorshift) -> WorkState {
     let most = rng.pick(&[8, 8, 16, 64]);
     let n = rng.between(2, most);
-    let table = any_table(rng, n);
-    let limit = rng.pick(&[1, 2, 64, 64]);
-    WorkState {
-        place: rng.below(n + 2) as u64,
-        mark: rng.percent(50),
-        end: rng.pick(&[End::Open, End::Open, End::Open, End::Stable, End::None]),
-        ..WorkState::opened(&table, limit)
-    }
+    any_state(rng, n)
 }
 
 /// One word that no good state of n stations has.
@@ -224,16 +218,18 @@ fn spoil(rng: &mut Xorshift, n: usize, words: &mut [u64]) {
     words[at] = if rng.percent(70) { wrong } else { wide };
 }
 
-/// A state in lent words, one in six of them bad, and behind it up to 40 more words.
-fn lent_words(rng: &mut Xorshift, state: &WorkState) -> (Vec<u64>, bool) {
+/// A state in lent words, one in six of them bad, and behind it up to 40 more words; and
+/// the number of a run on them.
+fn lent_words(rng: &mut Xorshift, state: &WorkState) -> (Vec<u64>, Number) {
     let mut words = to_words(state).to_vec();
-    let bad = rng.below(6) == 0;
-    if bad {
+    let mut number = card::TAKEN;
+    if rng.below(6) == 0 {
         spoil(rng, state.n as usize, &mut words);
+        number = card::BAD_WORK_STATE;
     }
     let behind = rng.pick(&[0, 0, 1, 40]);
     words.extend((0..behind).map(|_| rng.word()));
-    (words, bad)
+    (words, number)
 }
 
 #[test]
@@ -241,15 +237,10 @@ fn runs_in_turns_on_the_same_words_leave_what_one_run_leaves() {
     let mut rng = Xorshift::new(35);
     let (mut refused, mut cut) = (0, 0);
     for _ in 0..24_000 {
-        let state = any_state(&mut rng);
+        let state = drawn_state(&mut rng);
         let budgets = split_budget(&mut rng, &state);
-        let (words, bad) = lent_words(&mut rng, &state);
+        let (words, number) = lent_words(&mut rng, &state);
         let budget = budget_of(&budgets).expect("parts of a budget");
-        let number = if bad {
-            card::BAD_WORK_STATE
-        } else {
-            card::TAKEN
-        };
 
         let mut one = run_on_words(&words, &[budget]);
         assert_eq!(one.numbers, [number.into()]);
@@ -257,7 +248,7 @@ fn runs_in_turns_on_the_same_words_leave_what_one_run_leaves() {
         one.numbers = vec![number.into(); budgets.len()];
         assert_eq!(run_on_words(&words, &budgets), one);
         cut += u32::from((1..one.steps).contains(&budgets[0].into()));
-        if bad {
+        if number != card::TAKEN {
             assert_eq!((one.words, one.steps, one.removed), (words, 0, 0));
             refused += 1;
         }
@@ -269,13 +260,8 @@ fn runs_in_turns_on_the_same_words_leave_what_one_run_leaves() {
 fn a_run_with_a_budget_of_0_changes_no_word() {
     let mut rng = Xorshift::new(36);
     for _ in 0..4_000 {
-        let state = any_state(&mut rng);
-        let (words, bad) = lent_words(&mut rng, &state);
-        let number = if bad {
-            card::BAD_WORK_STATE
-        } else {
-            card::TAKEN
-        };
+        let state = drawn_state(&mut rng);
+        let (words, number) = lent_words(&mut rng, &state);
         let unchanged = Leaves {
             numbers: vec![number.into(); 2],
             words: words.clone(),

@@ -1,6 +1,6 @@
 //! Runs in turns add up to one run (W-211).
 
-use reference::gen::{all_tables, any_table, split_budget, Family, Xorshift};
+use reference::gen::{all_tables, any_state, split_budget, Family, Xorshift};
 use reference::paper::NINE_LEGS;
 use reference::state::last_place;
 use reference::turns::{budget_of, fault, take, together, Together};
@@ -63,18 +63,6 @@ fn some_tables_of_four_stations() {
                 hold_every_split(calls, state);
             }
         }
-    }
-}
-
-/// A table of any family at any place, with any mark, end and limit.
-fn any_state(rng: &mut Xorshift, n: usize) -> WorkState {
-    let table = any_table(rng, n);
-    let limit = rng.pick(&[1, 2, 64]);
-    WorkState {
-        place: rng.below(n + 2) as u64,
-        mark: rng.percent(50),
-        end: rng.pick(&[End::Open, End::Open, End::Open, End::Stable, End::None]),
-        ..WorkState::opened(&table, limit)
     }
 }
 
