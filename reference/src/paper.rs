@@ -54,6 +54,14 @@ pub fn dead_end() -> LegTable {
     LegTable::from_legs(6, [(1, 5), (6, 2), (6, 5)].into_iter().chain(others))
 }
 
+/// The Petersen graph, a pentagon around a pentagram: 10 stations and 30 legs, and no round.
+pub fn petersen() -> LegTable {
+    let pentagon = [(1, 2), (2, 3), (3, 4), (4, 5), (5, 1)];
+    let spokes = [(1, 6), (2, 7), (3, 8), (4, 9), (5, 10)];
+    let pentagram = [(6, 8), (8, 10), (10, 7), (7, 9), (9, 6)];
+    two_way(10, &[pentagon, spokes, pentagram].concat())
+}
+
 /// The catalogue's instance with all solutions listed, own stations left out.
 pub fn catalogue() -> LegTable {
     let from_1_and_2 = [(1, 3), (1, 4), (2, 1)];
