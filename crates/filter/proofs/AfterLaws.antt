@@ -1,30 +1,59 @@
--- A step and a run taken apart: what holds of each outcome holds of them. Assumes nothing.
-use mathlib.Core.Path.{_≡_, refl}
-use mathlib.Core.Bool.{Bool, true, false, cond, _||_}
+-- A call by hand, a step and a run taken apart: what holds of each outcome holds of them. Assumes nothing.
+use mathlib.Core.Path.{_≡_, refl, sym, subst}
+use mathlib.Core.Bool.{true, false, cond}
 use Prim.Native.Nat.{ℕ, suc, _+_, _≤_, _<_}
 use native.Mathlib.Omega.{arith}
 use lib.Dec.{ltb}
 use borrow.Author.Tests.{ltb-true, ltb-false}
 use Rattle.bitset.proofs.BoolLaws.{cond-elim}
-use Rattle.circuit.specs.declared.card.Answer.the-variants.{Taken, BadWork}
+use Rattle.circuit.specs.declared.card.Answer.the-variants.{Taken, BadWork, StraySeed}
 use Rattle.circuit.specs.declared.state.Work.{Work}
 use Rattle.circuit.specs.declared.verdict.Verdict.{Verdict}
 use Rattle.circuit.specs.Legs.{legs, Subtable}
-use Rattle.circuit.specs.State.{isOpen, rowsOf, lastPlace, bad}
+use Rattle.circuit.specs.State.{isOpen, isNone, rowsOf, lastPlace, bad}
 use Rattle.circuit.proofs.LegsLaws.{legs-le}
+use Rattle.filter.specs.declared.rule.Rule.{Rule}
+use Rattle.filter.specs.declared.hand.Called.{Called}
 use Rattle.filter.specs.declared.cycle.Ran.{Ran}
-use Rattle.filter.specs.Calls.{gone, halted, advanced, cycled, after, step, idle, onward, runFrom, runCall}
+use Rattle.filter.specs.Rule.{straySeed}
+use Rattle.filter.specs.Calls.{verdict, gone, halted, unchanged, reopened, byHand, handCall, markAfter, advanced, cycled, after, step, idle, onward, runFrom, runCall}
 
--- the mark after a step with the verdict v
-abbrev pub marks : Work → Verdict → Bool
-marks w v = w .mark || ltb 0 (gone w v)
+-- ---- a call by hand
 
-pub after-cases : (P : Work → Type 0) (w : Work) (v : Verdict) → (v .none ≡ true → P (halted w v)) → (v .none ≡ false → w .place < lastPlace (w .n) → P (advanced w v (marks w v)))
-    → (v .none ≡ false → lastPlace (w .n) ≤ w .place → P (cycled w v (marks w v))) → P (after w v)
+pub byHand-cases : (P : Called → Type 0) (w : Work) (v : Verdict) → (isNone (w .end) ≡ true → P (unchanged Taken w))
+    → (v .none ≡ true → P (record { answer = Taken; work = halted w v; removed = gone w v }))
+    → (v .none ≡ false → 0 < gone w v → P (record { answer = Taken; work = reopened w v; removed = gone w v }))
+    → (v .none ≡ false → gone w v ≡ 0 → P (unchanged Taken w)) → P (byHand w v)
+unfolding byHand
+byHand-cases P w v f g h k =
+    cond-elim P (isNone (w .end)) (unchanged Taken w) (to (cond (v .none) (halted w v) some)) f (λ _.
+    cond-elim (λ (u : Work). P (to u)) (v .none) (halted w v) some g (λ e.
+    cond-elim (λ (u : Work). P (to u)) (ltb 0 (gone w v)) (reopened w v) w (λ l. h e (ltb-true 0 (gone w v) l)) (λ l.
+    let none : gone w v ≡ 0 = omega (arith, ltb-false 0 (gone w v) l) in
+    subst (λ (x : ℕ). P (record { answer = Taken; work = w; removed = x })) (sym none) (k e none))))
+  where
+    to : Work → Called
+    to u = record { answer = Taken; work = u; removed = gone w v }
+
+    some : Work
+    some = cond (ltb 0 (gone w v)) (reopened w v) w
+
+pub handCall-cases : (P : Called → Type 0) (w : Work) (r : Rule) → (bad w ≡ true → P (unchanged BadWork w))
+    → (bad w ≡ false → straySeed (w .n) r ≡ true → P (unchanged StraySeed w))
+    → (bad w ≡ false → straySeed (w .n) r ≡ false → P (byHand w (verdict w r))) → P (handCall w r)
+unfolding handCall
+handCall-cases P w r f g h =
+    cond-elim P (bad w) (unchanged BadWork w) (cond (straySeed (w .n) r) (unchanged StraySeed w) (byHand w (verdict w r))) f (λ e.
+    cond-elim P (straySeed (w .n) r) (unchanged StraySeed w) (byHand w (verdict w r)) (g e) (h e))
+
+-- ---- a step
+
+pub after-cases : (P : Work → Type 0) (w : Work) (v : Verdict) → (v .none ≡ true → P (halted w v)) → (v .none ≡ false → w .place < lastPlace (w .n) → P (advanced w v (markAfter w v)))
+    → (v .none ≡ false → lastPlace (w .n) ≤ w .place → P (cycled w v (markAfter w v))) → P (after w v)
 unfolding after
 after-cases P w v f g h =
-    cond-elim P (v .none) (halted w v) (cond (ltb (w .place) (lastPlace (w .n))) (advanced w v (marks w v)) (cycled w v (marks w v))) f (λ e.
-    cond-elim P (ltb (w .place) (lastPlace (w .n))) (advanced w v (marks w v)) (cycled w v (marks w v)) (λ l. g e (ltb-true _ _ l)) (λ l. h e (ltb-false _ _ l)))
+    cond-elim P (v .none) (halted w v) (cond (ltb (w .place) (lastPlace (w .n))) (advanced w v (markAfter w v)) (cycled w v (markAfter w v))) f (λ e.
+    cond-elim P (ltb (w .place) (lastPlace (w .n))) (advanced w v (markAfter w v)) (cycled w v (markAfter w v)) (λ l. g e (ltb-true _ _ l)) (λ l. h e (ltb-false _ _ l)))
 
 pub after-rows : (w : Work) (v : Verdict) → rowsOf (after w v) ≡ v .left
 after-rows w v = after-cases (λ (u : Work). rowsOf u ≡ v .left) w v (λ _. refl) (λ _ _. refl) (λ _ _. refl)

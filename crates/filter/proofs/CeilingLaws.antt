@@ -18,9 +18,9 @@ use Rattle.circuit.specs.State.{isOpen, rowsOf, lastPlace, Good}
 use Rattle.circuit.proofs.StateLaws.{not-bad, good-legs}
 use Rattle.filter.specs.declared.cycle.Ran.{Ran}
 use Rattle.filter.specs.Rule.{ruleAt}
-use Rattle.filter.specs.Calls.{verdict, gone, cycled, after, step, runFrom, runCall}
+use Rattle.filter.specs.Calls.{verdict, gone, markAfter, cycled, after, step, runFrom, runCall}
 use Rattle.filter.specs.Ends.{Ended, ceiling, fullBudget, EndsWithin}
-use Rattle.filter.proofs.AfterLaws.{marks, after-cases, left-le}
+use Rattle.filter.proofs.AfterLaws.{after-cases, left-le}
 use Rattle.filter.proofs.CallLaws.{place-sound, step-leads}
 use Rattle.filter.proofs.RunLaws.{run-open, run-shut, run-steps, run-same, shut-ended, run-good}
 
@@ -54,15 +54,15 @@ cycle-falls last place x y h l = omega (arith, mul-le-mul-left (suc last) h, mul
 after-less : (w : Work) (v : Verdict) → w .place ≤ lastPlace (w .n) → Subtable (v .left) (rowsOf w) → isOpen (after w v .end) ≡ true → due (after w v) < due w
 unfolding due digit
 after-less w v p sub =
-    after-cases Less w v (λ _ o. clash (sym o)) (λ _ l o. rest-falls (lastPlace (w .n)) (w .place) _ _ (paid (marks w v) refl) l) (λ _ _. cycles (marks w v) refl)
+    after-cases Less w v (λ _ o. clash (sym o)) (λ _ l o. rest-falls (lastPlace (w .n)) (w .place) _ _ (paid (markAfter w v) refl) l) (λ _ _. cycles (markAfter w v) refl)
   where
     Less : Work → Type 0
     Less u = isOpen (u .end) ≡ true → due u < due w
 
-    paid : (m : Bool) → marks w v ≡ m → legs (w .n) (v .left) + digit m ≤ standing w + digit (w .mark)
+    paid : (m : Bool) → markAfter w v ≡ m → legs (w .n) (v .left) + digit m ≤ standing w + digit (w .mark)
     paid m e = rw (sym e) (pays (w .mark) (gone w v) (legs (w .n) (v .left)) (standing w) (left-le w v sub))
 
-    cycles : (m : Bool) → marks w v ≡ m → Less (cycled w v m)
+    cycles : (m : Bool) → markAfter w v ≡ m → Less (cycled w v m)
     cycles true e o = cycle-falls (lastPlace (w .n)) (w .place) (legs (w .n) (v .left) + 0) _ (omega (arith, paid true e)) p
     cycles false e o = clash (sym o)
 

@@ -1,36 +1,33 @@
 -- Removals are legs before less legs after, for a step, a call by hand and a run; where none is removed, the table stays. Assumes nothing.
 use mathlib.Core.Path.{_≡_, refl, sym, ap, _∙_, subst}
 use mathlib.Core.Logic.{⊎-elim}
-use mathlib.Core.Bool.{cond, false}
+use mathlib.Core.Bool.{false}
 use mathlib.Core.List.{List}
 use Prim.Native.Nat.{ℕ, zero, suc, _+_, _≤_, _<_}
 use native.Mathlib.Nat.{not-suc-le-zero}
 use native.Mathlib.Omega.{arith}
-use lib.Dec.{ltb}
 use lib.ListN.{length}
-use borrow.Author.Tests.{ltb-false}
 use Rattle.bitset.specs.Sets.{has, sum, size}
 use Rattle.bitset.specs.Upto.{row}
-use Rattle.bitset.proofs.BoolLaws.{cases, cond-elim}
+use Rattle.bitset.proofs.BoolLaws.{cases}
 use Rattle.bitset.proofs.OnesLaws.{count-mono, size-ones, within-eq}
 use Rattle.bitset.proofs.QuantLaws.{below?, at-or-below}
 use Rattle.bitset.proofs.SumLaws.{sum-mono}
 use Rattle.bitset.proofs.UptoLaws.{upto-of}
 use Rattle.circuit.specs.declared.state.Work.{Work}
 use Rattle.circuit.specs.declared.verdict.Verdict.{Verdict}
-use Rattle.circuit.specs.declared.card.Answer.the-variants.{Taken, BadWork, StraySeed}
 use Rattle.circuit.specs.Legs.{leg, legs, Subtable}
-use Rattle.circuit.specs.State.{isNone, rowsOf, stray, bad, Good}
+use Rattle.circuit.specs.State.{rowsOf, stray, bad, Good}
 use Rattle.circuit.specs.Round.{All}
 use Rattle.circuit.specs.Verdict.{Sound}
 use Rattle.circuit.proofs.StateLaws.{good, stray-row, stray-beyond, stray-sub}
 use Rattle.filter.specs.declared.rule.Rule.{Rule}
 use Rattle.filter.specs.declared.hand.Called.{Called}
 use Rattle.filter.specs.declared.cycle.Ran.{Ran}
-use Rattle.filter.specs.Rule.{straySeed, ruleAt}
-use Rattle.filter.specs.Calls.{verdict, gone, halted, unchanged, reopened, byHand, handCall, step, runFrom, runCall}
+use Rattle.filter.specs.Rule.{ruleAt}
+use Rattle.filter.specs.Calls.{verdict, gone, byHand, handCall, step, runFrom, runCall}
 use Rattle.filter.specs.Leads.{Leads}
-use Rattle.filter.proofs.AfterLaws.{after-rows, left-le, runFrom-cases, runCall-cases}
+use Rattle.filter.proofs.AfterLaws.{byHand-cases, handCall-cases, after-rows, left-le, runFrom-cases, runCall-cases}
 use Rattle.filter.proofs.CallLaws.{place-sound, step-leads, handCall-leads, runCall-leads}
 use Rattle.filter.proofs.HandLaws.{call-bad}
 use Rattle.filter.proofs.RuleLaws.{says-sound}
@@ -58,30 +55,14 @@ from-removed (suc b) w g =
 -- ---- the calls
 
 byHand-removed : (w : Work) (v : Verdict) → Subtable (v .left) (rowsOf w) → byHand w v .removed + legs (w .n) (rowsOf (byHand w v .work)) ≡ legs (w .n) (rowsOf w)
-unfolding byHand
 byHand-removed w v sub =
-    cond-elim (λ (c : Called). c .removed + legs (w .n) (rowsOf (c .work)) ≡ legs (w .n) (rowsOf w)) (isNone (w .end)) (unchanged Taken w) (record { answer = Taken; work = cond (v .none) (halted w v) some; removed = gone w v }) (λ _. omega arith) (λ _.
-    cond-elim left (v .none) (halted w v) some (λ _. all) (λ _.
-    cond-elim left (ltb 0 (gone w v)) (reopened w v) w (λ _. all) (λ e. omega (arith, ltb-false 0 (gone w v) e))))
-  where
-    some : Work
-    some = cond (ltb 0 (gone w v)) (reopened w v) w
-
-    left : Work → Type 0
-    left u = gone w v + legs (w .n) (rowsOf u) ≡ legs (w .n) (rowsOf w)
-
-    all : gone w v + legs (w .n) (v .left) ≡ legs (w .n) (rowsOf w)
-    all = left-le w v sub
+    byHand-cases (λ (c : Called). c .removed + legs (w .n) (rowsOf (c .work)) ≡ legs (w .n) (rowsOf w)) w v (λ _. omega arith) (λ _. left-le w v sub)
+    (λ _ _. left-le w v sub) (λ _ _. omega arith)
 
 pub hand-removed : (w : Work) (r : Rule) → handCall w r .removed + legs (w .n) (rowsOf (handCall w r .work)) ≡ legs (w .n) (rowsOf w)
-unfolding handCall
 hand-removed w r =
-    cond-elim whole (bad w) (unchanged BadWork w) (cond (straySeed (w .n) r) (unchanged StraySeed w) (byHand w (verdict w r))) (λ _. omega arith) (λ e.
-    cond-elim whole (straySeed (w .n) r) (unchanged StraySeed w) (byHand w (verdict w r)) (λ _. omega arith) (λ f.
-    byHand-removed w (verdict w r) (says-sound r (w .n) (rowsOf w) (w .limit) (good w e .most) f .sub)))
-  where
-    whole : Called → Type 0
-    whole c = c .removed + legs (w .n) (rowsOf (c .work)) ≡ legs (w .n) (rowsOf w)
+    handCall-cases (λ (c : Called). c .removed + legs (w .n) (rowsOf (c .work)) ≡ legs (w .n) (rowsOf w)) w r (λ _. omega arith) (λ _ _. omega arith)
+    (λ e f. byHand-removed w (verdict w r) (says-sound r (w .n) (rowsOf w) (w .limit) (good w e .most) f .sub))
 
 pub run-removed : (w : Work) (budget : ℕ) → runCall w budget .removed + legs (w .n) (rowsOf (runCall w budget .work)) ≡ legs (w .n) (rowsOf w)
 run-removed w budget =

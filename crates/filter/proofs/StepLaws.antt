@@ -17,9 +17,8 @@ use Rattle.circuit.specs.Legs.{legs}
 use Rattle.circuit.specs.State.{isOpen, rowsOf, moved, lastPlace, Good}
 use Rattle.filter.specs.Rule.{ruleAt}
 use Rattle.circuit.specs.Round.{All}
-use Rattle.filter.specs.Calls.{verdict, gone, halted, advanced, cycled, after, step, runFrom}
+use Rattle.filter.specs.Calls.{verdict, gone, halted, markAfter, advanced, cycled, after, step, runFrom}
 use Rattle.filter.specs.Turns.{both}
-use Rattle.filter.proofs.AfterLaws.{marks}
 use Rattle.filter.proofs.CallLaws.{step-leads}
 use Rattle.filter.proofs.RemovalLaws.{from-removed}
 use Rattle.filter.proofs.RunLaws.{run-open, run-add, run-same}
@@ -28,23 +27,23 @@ use Rattle.filter.proofs.RunLaws.{run-open, run-add, run-same}
 
 module _ (w : Work) (v : Verdict) where
   on : Work
-  on = cond (ltb (w .place) (lastPlace (w .n))) (advanced w v (marks w v)) (cycled w v (marks w v))
+  on = cond (ltb (w .place) (lastPlace (w .n))) (advanced w v (markAfter w v)) (cycled w v (markAfter w v))
 
   pub after-none : v .none ≡ true → halted w v ≡ after w v
   unfolding after on
   after-none e = sym (cond-true (halted w v) on e)
 
-  module _ (m : Bool) (is : m ≡ marks w v) (e : v .none ≡ false) where
+  module _ (m : Bool) (is : m ≡ markAfter w v) (e : v .none ≡ false) where
     pub after-next : ltb (w .place) (lastPlace (w .n)) ≡ true → moved w (v .left) (w .place + 1) m Open ≡ after w v
     unfolding after on
     after-next l =
-        ap₂ (λ (k : ℕ) (b : Bool). moved w (v .left) k b Open) (add-one (w .place)) is ∙ sym (cond-true (advanced w v (marks w v)) (cycled w v (marks w v)) l)
+        ap₂ (λ (k : ℕ) (b : Bool). moved w (v .left) k b Open) (add-one (w .place)) is ∙ sym (cond-true (advanced w v (markAfter w v)) (cycled w v (markAfter w v)) l)
         ∙ sym (cond-false (halted w v) on e)
 
     pub after-last : ltb (w .place) (lastPlace (w .n)) ≡ false → moved w (v .left) 0 false (cond m Open Stable) ≡ after w v
     unfolding after on
     after-last l =
-        ap (λ (b : Bool). moved w (v .left) 0 false (cond b Open Stable)) is ∙ sym (cond-false (advanced w v (marks w v)) (cycled w v (marks w v)) l)
+        ap (λ (b : Bool). moved w (v .left) 0 false (cond b Open Stable)) is ∙ sym (cond-false (advanced w v (markAfter w v)) (cycled w v (markAfter w v)) l)
         ∙ sym (cond-false (halted w v) on e)
 
 pub step-is : (w : Work) (v : Verdict) (u : Work) (r : ℕ) → v ≡ verdict w (ruleAt (w .place)) → r ≡ gone w v → u ≡ after w v → record { answer = Taken; work = u; removed = r } ≡ step w
