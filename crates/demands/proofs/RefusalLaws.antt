@@ -3,15 +3,15 @@ use mathlib.Core.Path.{_≡_, refl}
 use mathlib.Core.Bool.{false, not, cond}
 use mathlib.Core.List.{List}
 use Prim.Native.Nat.{ℕ}
-use lib.Dec.{eqb, ltb}
+use lib.Dec.{eqb}
 use lib.ListN.{length}
 use Rattle.bitset.specs.Sets.{outside}
 use Rattle.bitset.proofs.BoolLaws.{cond-elim}
-use Rattle.circuit.specs.declared.card.Answer.the-variants.{Taken, BadLimit, BadWork, StraySeed, WrongLength}
+use Rattle.circuit.specs.declared.card.Answer.the-variants.{Taken, BadLimit, BadWork, WrongLength}
 use Rattle.circuit.specs.declared.list.Checked.{Checked}
 use Rattle.circuit.specs.declared.state.Work.{Work}
 use Rattle.circuit.specs.declared.verdict.Verdict.{Verdict}
-use Rattle.circuit.specs.State.{isNone, rowsOf, blank, bad}
+use Rattle.circuit.specs.State.{rowsOf, blank, bad}
 use Rattle.circuit.specs.Check.{isList, checkCall}
 use Rattle.circuit.proofs.FillLaws.{fill-refused}
 use Rattle.sheet.specs.declared.Opened.{Opened}
@@ -22,9 +22,8 @@ use Rattle.report.specs.Lines.{text, reportCall, reportBytes}
 use Rattle.filter.specs.declared.rule.Rule.{Rule}
 use Rattle.filter.specs.declared.hand.Called.{Called}
 use Rattle.filter.specs.declared.cycle.Ran.{Ran}
-use Rattle.filter.specs.Rule.{straySeed}
-use Rattle.filter.specs.Calls.{verdict, gone, halted, reopened, unchanged, byHand, handCall, idle, runCall}
-use Rattle.filter.proofs.AfterLaws.{runCall-cases}
+use Rattle.filter.specs.Calls.{verdict, unchanged, byHand, handCall, idle, runCall}
+use Rattle.filter.proofs.AfterLaws.{byHand-cases, handCall-cases, runCall-cases}
 use Rattle.filter.proofs.RunLaws.{run-taken}
 use Rattle.demands.specs.Demands.{Refusal}
 
@@ -43,19 +42,12 @@ opening-refused s limit =
 -- ---- the calls by hand and the run
 
 hand-taken : (w : Work) (v : Verdict) → byHand w v .answer ≡ Taken
-unfolding byHand
-hand-taken w v =
-    cond-elim (λ (c : Called). c .answer ≡ Taken) (isNone (w .end)) (unchanged Taken w)
-    (record { answer = Taken; work = cond (v .none) (halted w v) (cond (ltb 0 (gone w v)) (reopened w v) w); removed = gone w v }) (λ _. refl) (λ _. refl)
+hand-taken w v = byHand-cases (λ (c : Called). c .answer ≡ Taken) w v (λ _. refl) (λ _. refl) (λ _ _. refl) (λ _ _. refl)
 
 pub hand-refused : (w : Work) (r : Rule) → Refusal (handCall w r .answer) → handCall w r ≡ unchanged (handCall w r .answer) w
-unfolding handCall
 hand-refused w r =
-    cond-elim kept (bad w) (unchanged BadWork w) (cond (straySeed (w .n) r) (unchanged StraySeed w) (byHand w (verdict w r))) (λ _ _. refl) (λ _.
-    cond-elim kept (straySeed (w .n) r) (unchanged StraySeed w) (byHand w (verdict w r)) (λ _ _. refl) (λ _ h. absurd (h (hand-taken w (verdict w r)))))
-  where
-    kept : Called → Type 0
-    kept c = Refusal (c .answer) → c ≡ unchanged (c .answer) w
+    handCall-cases (λ (c : Called). Refusal (c .answer) → c ≡ unchanged (c .answer) w) w r (λ _ _. refl) (λ _ _ _. refl)
+    (λ _ _ h. absurd (h (hand-taken w (verdict w r))))
 
 pub run-refused : (w : Work) (budget : ℕ) → Refusal (runCall w budget .answer) → runCall w budget ≡ idle (runCall w budget .answer) w
 run-refused w budget =
