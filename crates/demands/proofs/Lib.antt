@@ -1,7 +1,9 @@
--- The demands, the ceiling, runs in turns and the examples hold.
+-- The demands, the ceiling, runs in turns, what a stable end means and the examples hold.
 pub mod RefusalLaws
 pub mod CountLaws
 pub mod DemandLaws
 pub mod CeilingLaws
 pub mod TurnLaws
+pub mod StableLaws
+pub mod PetersenLaws
 pub mod ExampleLaws

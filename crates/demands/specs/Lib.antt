@@ -7,4 +7,5 @@ pub mod Demands
 pub mod Ceiling
 pub mod Turns
 pub mod Examples
+pub mod Stable
 pub mod Definitions
