@@ -1,8 +1,8 @@
 -- A stable end means that no rule strikes anything more, after any list of calls (W-212). Assumes nothing.
-use mathlib.Core.Path.{_≡_, sym, ap, ap₂, _∙_, subst}
+use mathlib.Core.Path.{_≡_, sym, ap, _∙_, subst}
 use mathlib.Core.List.{List, [], _∷_}
 use Prim.Native.Nat.{ℕ, _+_, _≤_}
-use Rattle.circuit.specs.declared.card.End.the-variants.{Open, Stable}
+use Rattle.circuit.specs.declared.card.End.the-variants.{Stable}
 use Rattle.circuit.specs.declared.state.Work.{Work}
 use Rattle.circuit.specs.Card.{card}
 use Rattle.circuit.specs.Round.{All}

@@ -3,3 +3,4 @@ pub mod WordsLaws
 pub mod SequenceLaws
 pub mod EndLaws
 pub mod TurnLaws
+pub mod StableLaws

@@ -8,10 +8,10 @@ use native.Mathlib.Omega.{arith}
 use lib.ListN.{length, drop, length-append}
 use lib.Seq.{drop-at}
 use borrow.Author.Tests.{le-ltb}
-use Rattle.bitset.proofs.BoolLaws.{cases, not-both, cond-true, cond-false}
+use Rattle.bitset.proofs.BoolLaws.{cases, not-both, is-false, cond-true, cond-false}
 use Rattle.circuit.specs.declared.card.Answer.{Answer}
 use Rattle.circuit.specs.declared.state.Work.{Work}
-use Rattle.circuit.specs.State.{rowsOf}
+use Rattle.circuit.specs.State.{rowsOf, bad}
 use Rattle.sheet.specs.Open.{openCall}
 use Rattle.sheet.proofs.GrammarLaws.{opened-long}
 use Rattle.filter.specs.declared.hand.Called.{Called}
@@ -22,10 +22,10 @@ use Rattle.filter.proofs.CallLaws.{handCall-leads, runCall-leads}
 use Rattle.demands.specs.Sequence.{Call, calling, running, checking, reporting, writing, handed, afterAll}
 use Rattle.demands.specs.Demands.{Refusal}
 use Rattle.demands.proofs.RefusalLaws.{hand-refused, run-refused}
-use Rattle.loungeegret.specs.Words.{stateWords, loaded, stored, storedIn}
+use Rattle.loungeegret.specs.Words.{stateWords, outOfRange, loaded, stored, storedIn}
 use Rattle.loungeegret.specs.Results.{onState, refuses, wordsAfter}
 use Rattle.loungeegret.specs.Sequence.{openedWords, wordsBack, wordsHanded, wordsAll, InSequence}
-use Rattle.loungeegret.proofs.WordsLaws.{length-stored, loaded-stored, loaded-long}
+use Rattle.loungeegret.proofs.WordsLaws.{length-stored, loaded-stored, loaded-long, out-of-range-bad}
 
 -- words that suffice are written
 pub on-state : {A : Type 0} (s : List ℕ) (x y : A) → stateWords ≤ length s → onState s x y ≡ y
@@ -42,6 +42,10 @@ pub record Holds (o s : List ℕ) (w : Work) : Type 0 where
 -- words that suffice hold the state that they say
 pub lent-holds : (s : List ℕ) → stateWords ≤ length s → Holds s s (loaded s)
 lent-holds s h = record { enough = h; is = refl; long = loaded-long s h; rest = refl }
+
+-- where that state is not bad, they are in range
+pub holds-range : (o s : List ℕ) (w : Work) → Holds o s w → bad w ≡ false → outOfRange s ≡ false
+holds-range o s w H e = is-false (outOfRange s) (λ out. not-both (out-of-range-bad s out) (ap bad (H .is) ∙ e))
 
 -- a state that is stored
 stored-holds : (o s : List ℕ) (w : Work) → drop stateWords s ≡ drop stateWords o → length (rowsOf w) ≡ 64 → Holds o (storedIn s w) w
@@ -88,11 +92,14 @@ unfolding wordsAll afterAll
 all-hold o s w H [] = H
 all-hold o s w H (c ∷ cs) = all-hold o (wordsHanded s c) (handed w c) (handed-holds o s w H c) cs
 
-pub in-sequence : (s sheet : List ℕ) (limit : ℕ) → stateWords ≤ length s → (cs : List Call) → InSequence s sheet limit cs
+-- after an opening and a list of calls
+pub opened-hold : (s sheet : List ℕ) (limit : ℕ) → stateWords ≤ length s → (cs : List Call) → Holds s (wordsAll (openedWords s sheet limit) cs) (afterAll (openCall sheet limit .work) cs)
 unfolding openedWords
-in-sequence s sheet limit h cs =
+opened-hold s sheet limit h cs =
     let w = openCall sheet limit .work in
     let begun : Holds s (openedWords s sheet limit) w =
     subst (λ (x : List ℕ). Holds s x w) (sym (on-state s s (storedIn s w) h)) (stored-holds s s w refl (opened-long sheet limit)) in
-    let H = all-hold s (openedWords s sheet limit) w begun cs in
-    record { state = H .is; rest = H .rest }
+    all-hold s (openedWords s sheet limit) w begun cs
+
+pub in-sequence : (s sheet : List ℕ) (limit : ℕ) → stateWords ≤ length s → (cs : List Call) → InSequence s sheet limit cs
+in-sequence s sheet limit h cs = let H = opened-hold s sheet limit h cs in record { state = H .is; rest = H .rest }

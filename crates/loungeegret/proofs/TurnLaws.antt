@@ -5,7 +5,7 @@ use mathlib.Core.Bool.{true, false}
 use mathlib.Core.List.{List, [], _∷_, _++_}
 use Prim.Native.Nat.{ℕ, _≤_}
 use lib.ListN.{length}
-use Rattle.bitset.proofs.BoolLaws.{cases, not-both, is-false}
+use Rattle.bitset.proofs.BoolLaws.{cases}
 use Rattle.circuit.specs.declared.state.Work.{Work}
 use Rattle.circuit.specs.State.{bad}
 use Rattle.filter.specs.declared.hand.Called.{Called}
@@ -22,8 +22,8 @@ use Rattle.loungeegret.specs.Words.{stateWords, loaded, stored, storedIn
 use Rattle.loungeegret.specs.Results.{wordsAfter}
 use Rattle.loungeegret.specs.Sequence.{wordsBack, wordsHanded, wordsAll}
 use Rattle.loungeegret.specs.Turns.{turnsOn, TurnsAdd}
-use Rattle.loungeegret.proofs.WordsLaws.{stored-loaded, out-of-range-bad}
-use Rattle.loungeegret.proofs.SequenceLaws.{Holds, on-state, lent-holds, handed-holds, all-hold}
+use Rattle.loungeegret.proofs.WordsLaws.{stored-loaded}
+use Rattle.loungeegret.proofs.SequenceLaws.{Holds, on-state, lent-holds, holds-range, handed-holds, all-hold}
 
 -- ---- what runs hand back together
 
@@ -41,8 +41,7 @@ turns-on o s r (b ∷ bs) H =
 holds-words : (o s : List ℕ) (w : Work) → Holds o s w → bad w ≡ false → s ≡ storedIn o w
 unfolding storedIn
 holds-words o s w H e =
-    sym (stored-loaded s (H .enough) (is-false _ (λ out. not-both (out-of-range-bad s out) (ap bad (H .is) ∙ e))))
-    ∙ ap₂ (λ (u : Work) (x : List ℕ). stored u ++ x) (H .is) (H .rest)
+    sym (stored-loaded s (H .enough) (holds-range o s w H e)) ∙ ap₂ (λ (u : Work) (x : List ℕ). stored u ++ x) (H .is) (H .rest)
 
 -- no call changes words that say a bad state
 bad-handed : (s : List ℕ) → bad (loaded s) ≡ true → stateWords ≤ length s → (c : Call) → wordsHanded s c ≡ s

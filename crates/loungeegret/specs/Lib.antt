@@ -3,4 +3,5 @@ pub mod Words
 pub mod Results
 pub mod Sequence
 pub mod Turns
+pub mod Stable
 pub mod inner
