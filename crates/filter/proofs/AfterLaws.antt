@@ -1,11 +1,13 @@
 -- A call by hand, a step and a run taken apart: what holds of each outcome holds of them. Assumes nothing.
 use mathlib.Core.Path.{_≡_, refl, sym, subst}
+use mathlib.Core.Logic.{⊎-elim}
 use mathlib.Core.Bool.{true, false, cond}
 use Prim.Native.Nat.{ℕ, suc, _+_, _≤_, _<_}
 use native.Mathlib.Omega.{arith}
 use lib.Dec.{ltb}
-use borrow.Author.Tests.{ltb-true, ltb-false}
-use Rattle.bitset.proofs.BoolLaws.{cond-elim}
+use borrow.Author.Tests.{lt-ltb, ltb-true, ltb-false}
+use Rattle.bitset.proofs.BoolLaws.{not-both, is-false, or-r, cond-elim}
+use Rattle.bitset.proofs.QuantLaws.{below?}
 use Rattle.circuit.specs.declared.card.Answer.the-variants.{Taken, BadWork, StraySeed}
 use Rattle.circuit.specs.declared.state.Work.{Work}
 use Rattle.circuit.specs.declared.verdict.Verdict.{Verdict}
@@ -47,6 +49,21 @@ handCall-cases P w r f g h =
     cond-elim P (straySeed (w .n) r) (unchanged StraySeed w) (byHand w (verdict w r)) (g e) (h e))
 
 -- ---- a step
+
+module _ (w : Work) (v : Verdict) where
+  -- a mark that is set stays set, and a leg that goes sets it
+  mark-stays : w .mark ≡ true → markAfter w v ≡ true
+  mark-stays m = rw m
+
+  gone-marks : 0 < gone w v → markAfter w v ≡ true
+  gone-marks l = or-r (w .mark) (lt-ltb 0 (gone w v) l)
+
+  -- so where it is clear after a step, it was before, and no leg went
+  pub mark-clear : markAfter w v ≡ false → (w .mark ≡ false) × (gone w v ≡ 0)
+  mark-clear e = (
+    is-false (w .mark) (λ m. not-both (mark-stays m) e),
+    ⊎-elim (λ l. absurd (not-both (gone-marks l) e)) (λ l. (let none : gone w v ≡ 0 = omega (arith, l) in none)) (below? 0 (gone w v)),
+  )
 
 pub after-cases : (P : Work → Type 0) (w : Work) (v : Verdict) → (v .none ≡ true → P (halted w v)) → (v .none ≡ false → w .place < lastPlace (w .n) → P (advanced w v (markAfter w v)))
     → (v .none ≡ false → lastPlace (w .n) ≤ w .place → P (cycled w v (markAfter w v))) → P (after w v)

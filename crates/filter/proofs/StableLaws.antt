@@ -7,8 +7,7 @@ use Prim.Native.Nat.{ℕ, zero, suc, _+_, _≤_, _<_, zero-le}
 use native.Mathlib.Omega.{arith}
 use lib.Dec.{ltb}
 use lib.ListN.{length}
-use borrow.Author.Tests.{ltb-false}
-use Rattle.bitset.proofs.BoolLaws.{clash, not-both, or-false-l, or-false-r}
+use Rattle.bitset.proofs.BoolLaws.{clash, not-both}
 use Rattle.bitset.proofs.OutsideLaws.{inside}
 use Rattle.bitset.proofs.QuantLaws.{at-or-below}
 use Rattle.circuit.specs.declared.state.Work.{Work}
@@ -27,7 +26,7 @@ use Rattle.filter.specs.declared.cycle.Ran.{Ran}
 use Rattle.filter.specs.Rule.{straySeed, ruleAt}
 use Rattle.filter.specs.Calls.{verdict, gone, halted, unchanged, byHand, handCall, markAfter, advanced, cycled, after, step, onward, runFrom, runCall}
 use Rattle.filter.specs.Stable.{Leaves, Fixpoint, anew, oneCycle, StableMeans, CycleInvariant}
-use Rattle.filter.proofs.AfterLaws.{byHand-cases, handCall-cases, after-cases, runFrom-cases, runCall-cases}
+use Rattle.filter.proofs.AfterLaws.{byHand-cases, handCall-cases, mark-clear, after-cases, runFrom-cases, runCall-cases}
 use Rattle.filter.proofs.CallLaws.{open-none, place-sound}
 use Rattle.filter.proofs.RemovalLaws.{left-same}
 use Rattle.filter.proofs.RuleLaws.{says-sound, place-fits}
@@ -63,11 +62,6 @@ by-places w at (Pass zero) f = clash f
 by-places w at (Pass (suc s)) f = at (suc (suc s)) (omega (arith, inside 1 (w .n) (suc s) f .1))
 
 module _ (w : Work) (v : Verdict) where
-  -- the mark is clear after a step: it was before, and no leg went
-  mark-clear : markAfter w v ≡ false → (w .mark ≡ false) × (gone w v ≡ 0)
-  mark-clear e =
-      (or-false-l (w .mark) (ltb 0 (gone w v)) e, (let none : gone w v ≡ 0 = omega (arith, ltb-false 0 (gone w v) (or-false-r (w .mark) (ltb 0 (gone w v)) e)) in none))
-
   -- a cycle ends stable only where the mark is clear
   cycled-stable : (m : Bool) → cycled w v m .end ≡ Stable → m ≡ false
   cycled-stable true e = open-stable e
@@ -88,11 +82,11 @@ module _ (w : Work) (v : Verdict) where
     module _ (o : w .end ≡ Open) (here : v ≡ verdict w (ruleAt (w .place))) (e : v .none ≡ false) (m : markAfter w v ≡ false) where
       -- the step left the table
       same : v ≡ leaves (rowsOf w)
-      same = ap₂ (λ (b : Bool) (t : List ℕ). record { none = b; left = t }) e (left-same w v (I .good) S (I .long) (mark-clear m .1))
+      same = ap₂ (λ (b : Bool) (t : List ℕ). record { none = b; left = t }) e (left-same w v (I .good) S (I .long) (mark-clear w v m .1))
 
       -- so the rule at its place leaves it, as those before do
       up-to : (k : ℕ) → k < suc (w .place) → Leaves w (ruleAt k)
-      up-to k l = ⊎-elim (λ q. ap (λ (x : ℕ). verdict w (ruleAt x)) q ∙ sym here ∙ same) (I .clear o (mark-clear m .0) k) (at-or-below l)
+      up-to k l = ⊎-elim (λ q. ap (λ (x : ℕ). verdict w (ruleAt x)) q ∙ sym here ∙ same) (I .clear o (mark-clear w v m .0) k) (at-or-below l)
 
       passed : (place : ℕ) (mark : Bool) (end : End) (k : ℕ) → k < suc (w .place) → Leaves (moved w (v .left) place mark end) (ruleAt k)
       passed place mark end k l = subst (λ (t : List ℕ). Leaves (moved w t place mark end) (ruleAt k)) (sym (ap (λ (u : Verdict). u .left) same)) (up-to k l)
