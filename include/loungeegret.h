@@ -54,8 +54,8 @@ enum {
 
 enum loungeegret_end {
     LOUNGEEGRET_OPEN = 0,
-    LOUNGEEGRET_STABLE = 1,
-    LOUNGEEGRET_NONE = 2
+    LOUNGEEGRET_STABLE = 1, /* no step strikes anything more; not that there is a round (see loungeegret_run) */
+    LOUNGEEGRET_NONE = 2    /* there is no round */
 };
 
 /*
@@ -122,6 +122,16 @@ uint32_t loungeegret_pass(uint64_t *state, size_t state_length, size_t seed, uin
  * adds up to what it writes, and each answers the number that it answers; a run with budget 0 changes no word (proved: turns-add).
  * List checks, reports and written sheets may come between turns, a sweep, a chain step or a pass by hand may not. Longer turns are
  * cheaper: what a run learns of passes that change nothing is forgotten where a turn ends.
+ *
+ * What stable means: after a taken opening and any calls on the same words, where the end is LOUNGEEGRET_STABLE, no sweep, chain
+ * step or pass strikes anything more, with any seed. Each answers LOUNGEEGRET_TAKEN, or LOUNGEEGRET_STRAY_SEED where the seed is
+ * stray, removes 0 legs and changes no word. Where place, mark and end are put back to 0, 0 and LOUNGEEGRET_OPEN, a run of n + 2 steps
+ * leaves the same words (proved: stable-words); so does a run from the sheet of what is left, opened with the same limit
+ * (stable-after).
+ *
+ * Stable does not promise a round, and legs that no round drives may be left: the Petersen graph, 10 stations and 30 legs, ends
+ * stable after 12 steps with nothing removed, and has no round (no-promise). Of words that say a stable end but came from no
+ * opening, nothing of this is said.
  */
 uint32_t loungeegret_run(uint64_t *state, size_t state_length, uint32_t budget,
                          uint32_t *steps, uint32_t *removed);

@@ -74,6 +74,7 @@ static int prune(const uint8_t *sheet, size_t sheet_length, const char *struck)
     puts(words[state[LOUNGEEGRET_END]]);
     if (state[LOUNGEEGRET_END] == LOUNGEEGRET_NONE)
         return 3;
+    /* Stable: no sweep, chain step or pass strikes anything more. A round is not promised, and legs that none drives may be left. */
     if (loungeegret_report(state, LOUNGEEGRET_STATE_WORDS, text, sizeof text, &length) != LOUNGEEGRET_TAKEN)
         return fail("the report is refused");
     fwrite(text, 1, length, stdout);

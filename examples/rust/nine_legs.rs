@@ -112,6 +112,7 @@ fn prune(sheet: &[u8], out: &mut impl Write, struck: Option<OsString>) -> io::Re
     if end == "none" {
         return Ok(3);
     }
+    // Stable: no sweep, chain step or pass strikes anything more. A round is not promised, and legs that none drives may be left.
     let number = unsafe {
         let (words, bytes) = (state.as_ptr(), text.as_mut_ptr());
         loungeegret_report(words, state.len(), bytes, text.len(), &mut length)

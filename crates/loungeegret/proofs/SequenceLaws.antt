@@ -1,8 +1,8 @@
 -- A sequence of C calls on the same lent words is the sequence of calls of demand 3. Assumes nothing.
-use mathlib.Core.Path.{_≡_, refl, sym, ap, _∙_, subst}
+use mathlib.Core.Path.{_≡_, refl, sym, ap, ap₂, _∙_, subst}
 use mathlib.Core.Logic.{⊎-elim}
 use mathlib.Core.Bool.{true, false}
-use mathlib.Core.List.{List, [], _∷_}
+use mathlib.Core.List.{List, [], _∷_, _++_}
 use Prim.Native.Nat.{ℕ, _≤_}
 use native.Mathlib.Omega.{arith}
 use lib.ListN.{length, drop, length-append}
@@ -25,7 +25,7 @@ use Rattle.demands.proofs.RefusalLaws.{hand-refused, run-refused}
 use Rattle.loungeegret.specs.Words.{stateWords, outOfRange, loaded, stored, storedIn}
 use Rattle.loungeegret.specs.Results.{onState, refuses, wordsAfter}
 use Rattle.loungeegret.specs.Sequence.{openedWords, wordsBack, wordsHanded, wordsAll, InSequence}
-use Rattle.loungeegret.proofs.WordsLaws.{length-stored, loaded-stored, loaded-long, out-of-range-bad}
+use Rattle.loungeegret.proofs.WordsLaws.{length-stored, loaded-stored, loaded-long, stored-loaded, out-of-range-bad}
 
 -- words that suffice are written
 pub on-state : {A : Type 0} (s : List ℕ) (x y : A) → stateWords ≤ length s → onState s x y ≡ y
@@ -47,8 +47,14 @@ lent-holds s h = record { enough = h; is = refl; long = loaded-long s h; rest = 
 pub holds-range : (o s : List ℕ) (w : Work) → Holds o s w → bad w ≡ false → outOfRange s ≡ false
 holds-range o s w H e = is-false (outOfRange s) (λ out. not-both (out-of-range-bad s out) (ap bad (H .is) ∙ e))
 
+-- and those of the state
+pub holds-words : (o s : List ℕ) (w : Work) → Holds o s w → bad w ≡ false → s ≡ storedIn o w
+unfolding storedIn
+holds-words o s w H e =
+    sym (stored-loaded s (H .enough) (holds-range o s w H e)) ∙ ap₂ (λ (u : Work) (x : List ℕ). stored u ++ x) (H .is) (H .rest)
+
 -- a state that is stored
-stored-holds : (o s : List ℕ) (w : Work) → drop stateWords s ≡ drop stateWords o → length (rowsOf w) ≡ 64 → Holds o (storedIn s w) w
+pub stored-holds : (o s : List ℕ) (w : Work) → drop stateWords s ≡ drop stateWords o → length (rowsOf w) ≡ 64 → Holds o (storedIn s w) w
 unfolding storedIn
 stored-holds o s w r long =
     let size = length-stored w long in

@@ -1,8 +1,8 @@
 -- Runs in turns on the same lent words add up (W-211). Assumes nothing.
-use mathlib.Core.Path.{_≡_, refl, sym, ap, ap₂, _∙_, subst}
+use mathlib.Core.Path.{_≡_, refl, sym, ap, _∙_, subst}
 use mathlib.Core.Logic.{⊎-elim}
 use mathlib.Core.Bool.{true, false}
-use mathlib.Core.List.{List, [], _∷_, _++_}
+use mathlib.Core.List.{List, [], _∷_}
 use Prim.Native.Nat.{ℕ, _≤_}
 use lib.ListN.{length}
 use Rattle.bitset.proofs.BoolLaws.{cases}
@@ -18,12 +18,11 @@ use Rattle.filter.proofs.TurnLaws.{run-stays, turns-sum, runs-add}
 use Rattle.demands.specs.Sequence.{Call, calling, running, checking, reporting, writing, handed}
 use Rattle.demands.specs.Turns.{budgetsOf, NoneByHand}
 use Rattle.demands.proofs.TurnLaws.{one-run}
-use Rattle.loungeegret.specs.Words.{stateWords, loaded, stored, storedIn}
+use Rattle.loungeegret.specs.Words.{stateWords, loaded, storedIn}
 use Rattle.loungeegret.specs.Results.{wordsAfter}
 use Rattle.loungeegret.specs.Sequence.{wordsBack, wordsHanded, wordsAll}
 use Rattle.loungeegret.specs.Turns.{turnsOn, TurnsAdd}
-use Rattle.loungeegret.proofs.WordsLaws.{stored-loaded}
-use Rattle.loungeegret.proofs.SequenceLaws.{Holds, on-state, lent-holds, holds-range, handed-holds, all-hold}
+use Rattle.loungeegret.proofs.SequenceLaws.{Holds, on-state, lent-holds, holds-words, handed-holds, all-hold}
 
 -- ---- what runs hand back together
 
@@ -36,12 +35,6 @@ turns-on o s r (b ∷ bs) H =
     turns-on o (wordsHanded s (running b)) (both r (runCall (loaded s) b)) bs holds ∙ ap (λ (w : Work). turns (both r (runCall w b)) bs) (H .is)
 
 -- ---- the words
-
--- words that hold a state which is not bad are those of the state
-holds-words : (o s : List ℕ) (w : Work) → Holds o s w → bad w ≡ false → s ≡ storedIn o w
-unfolding storedIn
-holds-words o s w H e =
-    sym (stored-loaded s (H .enough) (holds-range o s w H e)) ∙ ap₂ (λ (u : Work) (x : List ℕ). stored u ++ x) (H .is) (H .rest)
 
 -- no call changes words that say a bad state
 bad-handed : (s : List ℕ) → bad (loaded s) ≡ true → stateWords ≤ length s → (c : Call) → wordsHanded s c ≡ s
