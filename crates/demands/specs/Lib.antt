@@ -1,7 +1,7 @@
--- Sequences of calls, the demands of the paper, how long a run can take, runs in turns, and the paper's examples.
+-- Sequences of calls, the demands of the paper, how long a run can take, runs in turns, what a stable end means, and the paper's examples.
 -- What must be believed of the whole, in reading order, each in specs/ of its crate: bitset Sets, Upto; writer Text, Lent; circuit Card, Legs, Round,
 -- State, Check, Fill, Verdict; sheet Layout, Open, Write, Sizes; report Lines, Sizes; separator Levels, Components, Level; filter Sweep, Chain, Pass, Rule,
--- Calls, Ends, Turns, Leads; and the first five files here: some 1,040 lines without imports and blank lines, and 140 for the examples.
+-- Calls, Ends, Turns, Leads, Stable; and the files here but Definitions: some 1,100 lines without imports and blank lines, and 140 for the examples.
 pub mod Sequence
 pub mod Demands
 pub mod Ceiling

@@ -167,18 +167,18 @@ module _ (w : Work) (g : Good w) (F : Fixpoint w) where
   abbrev ended : Work
   ended = moved w (rowsOf w) 0 false Stable
 
-  clear : (k : ℕ) → markAfter (at k) (leaves (rowsOf w)) ≡ false
-  clear k = ap (ltb 0) (leaves-none (at k))
+  unmarked : (k : ℕ) → markAfter (at k) (leaves (rowsOf w)) ≡ false
+  unmarked k = ap (ltb 0) (leaves-none (at k))
 
   next : (k : ℕ) → k < lastPlace (w .n) → after (at k) (leaves (rowsOf w)) ≡ at (suc k)
   next k l =
-      after-cases (λ (u : Work). u ≡ at (suc k)) (at k) (leaves (rowsOf w)) (λ e. clash (sym e)) (λ _ _. ap (advanced (at k) (leaves (rowsOf w))) (clear k))
+      after-cases (λ (u : Work). u ≡ at (suc k)) (at k) (leaves (rowsOf w)) (λ e. clash (sym e)) (λ _ _. ap (advanced (at k) (leaves (rowsOf w))) (unmarked k))
       (λ _ m. absurd (let x : ⊥ = omega (arith, l, m) in x))
 
   last : (k : ℕ) → lastPlace (w .n) ≤ k → after (at k) (leaves (rowsOf w)) ≡ ended
   last k l =
       after-cases (λ (u : Work). u ≡ ended) (at k) (leaves (rowsOf w)) (λ e. clash (sym e)) (λ _ m. absurd (let x : ⊥ = omega (arith, l, m) in x))
-      (λ _ _. ap (cycled (at k) (leaves (rowsOf w))) (clear k))
+      (λ _ _. ap (cycled (at k) (leaves (rowsOf w))) (unmarked k))
 
   step-at : (k : ℕ) → k ≤ lastPlace (w .n) → (u : Work) → after (at k) (leaves (rowsOf w)) ≡ u → step (at k) ≡ unchanged Taken u
   unfolding step
