@@ -104,15 +104,16 @@ fn every_step(script: &mut Script, n: u64) {
     }
 }
 
+fn anew(ended: &WorkState) -> WorkState {
+    let end = End::Open;
+    WorkState { end, ..*ended }
+}
+
 /// One step before the end of the cycle, with just enough budget and with more.
 fn opened_anew(script: &mut Script, stable: &WorkState) {
-    let anew = WorkState {
-        end: End::Open,
-        ..*stable
-    };
     let cycle = last_place(stable.n) as u32 + 1;
     for budgets in [&[cycle - 1, 1][..], &[cycle], &[u32::MAX]] {
-        script.work(&anew);
+        script.work(&anew(stable));
         for &budget in budgets {
             script.run(budget);
         }
@@ -143,7 +144,7 @@ fn no_round(script: &mut Script) {
     script.report(length);
     for list in [
         [2, 3, 4, 5, 1, 8, 9, 10, 6, 7],
-        [2, 3, 4, 9, 1, 8, 10, 5, 7, 1],
+        [2, 3, 8, 5, 1, 1, 9, 10, 4, 7],
         [2, 3, 4, 5, 10, 8, 9, 1, 6, 7],
         [6, 7, 8, 9, 10, 1, 2, 3, 4, 5],
     ] {
@@ -172,19 +173,28 @@ fn named_tables(script: &mut Script) {
     }
 }
 
-/// Stable with a low limit, though passes with a higher one have more to strike, or give
-/// none. Those of long runs have had their rows with the highest.
+/// Stable with a low limit, though passes with the highest have more to strike, or give
+/// none. All but the butterfly have their rows with the highest, too.
 fn limits_that_tell(script: &mut Script) {
     let [.., five, _, eight, _, sixteen] = long_runs();
-    for (limit, table) in [(1, &five), (3, &eight), (2, &sixteen)] {
+    let (rungs, butterfly) = (ring_of_rungs(8), paper::butterfly());
+    for (limit, table) in [
+        (1, &five),
+        (3, &eight),
+        (2, &sixteen),
+        (1, &rungs),
+        (1, &butterfly),
+    ] {
         let opened = by_sheet(script, limit, table);
-        row(script, opened, &[]);
+        let stable = to_stable(script, opened, &[]);
+        let higher = WorkState {
+            limit: LIMIT,
+            ..stable
+        };
+        assert_ne!(fast::run(anew(&higher), u32::MAX).state, higher);
+        tried(script, &stable);
     }
-    for limit in [1, 2] {
-        let opened = by_sheet(script, limit, &ring_of_rungs(8));
-        row(script, opened, &[]);
-    }
-    let opened = by_sheet(script, 1, &paper::butterfly());
+    let opened = by_sheet(script, LIMIT, &rungs);
     row(script, opened, &[]);
 }
 
@@ -239,7 +249,7 @@ fn drawn(rng: &mut Xorshift, n: usize) -> (LegTable, u64, Vec<Call>) {
 /// Calls like those that led to the stable state do nothing on it.
 fn random_calls(script: &mut Script) {
     let mut rng = Xorshift::new(1501);
-    for n in [4, 5, 6, 7, 8, 9, 10, 11, 12, 13, 16] {
+    for n in [4, 5, 6, 7, 8, 9, 10, 11, 12, 13, 14, 16] {
         let (table, limit, before) = drawn(&mut rng, n);
         let opened = by_sheet(script, limit, &table);
         let stable = to_stable(script, opened, &before);
