@@ -7,9 +7,12 @@
 //! that is written of it. The last states are made up: they say stable from the start,
 //! and a step does change them, so it is the opening that counts.
 
+mod calls;
+
+use self::calls::{calls, drawn, tells, winds, Call, Fits};
 use crate::fast;
-use crate::gen::{any_table, chain_among, long_runs, loop_among, plant_round, ring};
-use crate::gen::{ring_of_rungs, Family, Sheet, Xorshift};
+use crate::gen::{chain_among, long_runs, loop_among, ring, ring_of_rungs};
+use crate::gen::{Family, Sheet, Xorshift};
 use crate::lines::station_lines;
 use crate::paper;
 use crate::program::LIMIT;
@@ -28,50 +31,9 @@ pub fn add(script: &mut Script) {
     made_up_states(script);
 }
 
-/// A call on the way to a stable state, or on it.
-#[derive(Clone, Copy, Debug)]
-enum Call {
-    Sweep,
-    Chain,
-    Pass(u64),
-    Run(u32),
-}
-
-impl Call {
-    fn add(self, script: &mut Script) {
-        match self {
-            Call::Sweep => script.sweep(),
-            Call::Chain => script.chain(),
-            Call::Pass(seed) => script.pass(seed),
-            Call::Run(budget) => script.run(budget),
-        }
-    }
-
-    /// The plain run of many stations takes long.
-    fn after(self, state: WorkState) -> WorkState {
-        match self {
-            Call::Sweep => fast::sweep(state).state,
-            Call::Chain => fast::chain(state).state,
-            Call::Pass(seed) => fast::pass(state, seed).state,
-            Call::Run(budget) => fast::run(state, budget).state,
-        }
-    }
-
-    fn by_hand(self) -> bool {
-        !matches!(self, Call::Run(_))
-    }
-}
-
-fn by_sheet(script: &mut Script, limit: u64, table: &LegTable) -> WorkState {
+fn opened(script: &mut Script, limit: u64, table: &LegTable) -> WorkState {
     script.open(limit, &Sheet::short(table).bytes());
     WorkState::opened(table, limit)
-}
-
-/// The same state without a sheet.
-fn at_rest(script: &mut Script, limit: u64, table: &LegTable) -> WorkState {
-    let state = WorkState::opened(table, limit);
-    script.work(&state);
-    state
 }
 
 /// These calls, and a run to the end.
@@ -127,8 +89,18 @@ fn written_and_opened(script: &mut Script, stable: &WorkState) {
     script.run(u32::MAX);
 }
 
-fn row(script: &mut Script, opened: WorkState, calls: &[Call]) {
-    let stable = to_stable(script, opened, calls);
+/// A row that begins with a sheet.
+fn by_sheet(script: &mut Script, limit: u64, table: &LegTable) {
+    let opened = opened(script, limit, table);
+    let stable = to_stable(script, opened, &[]);
+    tried(script, &stable);
+}
+
+/// A row that begins with the same state as a work state.
+fn at_rest(script: &mut Script, limit: u64, table: &LegTable) {
+    let state = WorkState::opened(table, limit);
+    script.work(&state);
+    let stable = to_stable(script, state, &[]);
     tried(script, &stable);
 }
 
@@ -138,7 +110,7 @@ fn row(script: &mut Script, opened: WorkState, calls: &[Call]) {
 fn no_round(script: &mut Script) {
     let table = paper::petersen();
     let length = station_lines(&table).len();
-    let opened = by_sheet(script, LIMIT, &table);
+    let opened = opened(script, LIMIT, &table);
     script.report(length);
     let stable = to_stable(script, opened, &[]);
     script.report(length);
@@ -151,8 +123,7 @@ fn no_round(script: &mut Script) {
         script.list(&list);
     }
     tried(script, &stable);
-    let opened = at_rest(script, 3, &table);
-    row(script, opened, &[]);
+    at_rest(script, 3, &table);
 }
 
 /// With the highest limit by sheets, with the lowest as work states.
@@ -161,15 +132,12 @@ fn named_tables(script: &mut Script) {
     let named = [nine_legs, paper::catalogue(), paper::valley()];
     let plain = [LegTable::full(2), LegTable::full(3), ring(5)];
     for table in named.iter().chain(&plain) {
-        let opened = by_sheet(script, LIMIT, table);
-        row(script, opened, &[]);
-        let opened = at_rest(script, SMALLEST_LIMIT, table);
-        row(script, opened, &[]);
+        by_sheet(script, LIMIT, table);
+        at_rest(script, SMALLEST_LIMIT, table);
     }
     // The first of the long runs is that of both legs of two stations.
     for table in &long_runs()[1..] {
-        let opened = by_sheet(script, LIMIT, table);
-        row(script, opened, &[]);
+        by_sheet(script, LIMIT, table);
     }
 }
 
@@ -185,7 +153,7 @@ fn limits_that_tell(script: &mut Script) {
         (1, &rungs),
         (1, &butterfly),
     ] {
-        let opened = by_sheet(script, limit, table);
+        let opened = opened(script, limit, table);
         let stable = to_stable(script, opened, &[]);
         let higher = WorkState {
             limit: LIMIT,
@@ -194,64 +162,24 @@ fn limits_that_tell(script: &mut Script) {
         assert_ne!(fast::run(anew(&higher), u32::MAX).state, higher);
         tried(script, &stable);
     }
-    let opened = by_sheet(script, LIMIT, &rungs);
-    row(script, opened, &[]);
+    by_sheet(script, LIMIT, &rungs);
 }
 
 /// A two-way ring is left.
 fn most_stations(script: &mut Script) {
     let table = Family::RingWithRungs.table(&mut Xorshift::new(1503), 64);
-    let opened = by_sheet(script, LIMIT, &table);
-    row(script, opened, &[]);
-}
-
-/// Calls by hand and runs in turns, in any order.
-fn calls(rng: &mut Xorshift, n: usize) -> Vec<Call> {
-    let call = |rng: &mut Xorshift| match rng.below(8) {
-        0 => Call::Sweep,
-        1 => Call::Chain,
-        2..=4 => Call::Pass(rng.between(1, n) as u64),
-        _ => Call::Run(rng.between(1, n + 4) as u32),
-    };
-    let count = rng.between(3, 6);
-    (0..count).map(|_| call(rng)).collect()
-}
-
-/// Does a call by hand strike a leg in mid-cycle and the last run one more, before it
-/// ends stable?
-fn winding(opened: WorkState, calls: &[Call]) -> bool {
-    let mut state = opened;
-    let mut struck = false;
-    for call in calls {
-        let after = call.after(state);
-        struck |= call.by_hand() && state.place > 0 && after.legs() < state.legs();
-        state = after;
-    }
-    let ran = fast::run(state, u32::MAX);
-    struck && ran.removed > 0 && ran.state.end == End::Stable
-}
-
-/// A table of any family, mostly with a round, and calls on it that wind.
-fn drawn(rng: &mut Xorshift, n: usize) -> (LegTable, u64, Vec<Call>) {
-    loop {
-        let mut table = any_table(rng, n);
-        if rng.percent(70) {
-            plant_round(rng, &mut table);
-        }
-        let limit = rng.pick(&[1, 2, LIMIT]);
-        let calls = calls(rng, n);
-        if winding(WorkState::opened(&table, limit), &calls) {
-            return (table, limit, calls);
-        }
-    }
+    by_sheet(script, LIMIT, &table);
 }
 
 /// Calls like those that led to the stable state do nothing on it.
 fn random_calls(script: &mut Script) {
     let mut rng = Xorshift::new(1501);
-    for n in [4, 5, 6, 7, 8, 9, 10, 11, 12, 13, 14, 16] {
-        let (table, limit, before) = drawn(&mut rng, n);
-        let opened = by_sheet(script, limit, &table);
+    // Calls that tell are rare.
+    let tell = [5, 6, 8].map(|n| (n, tells as Fits));
+    let wind = [4, 7, 9, 10, 11, 12, 13, 14, 16].map(|n| (n, winds as Fits));
+    for (n, fits) in tell.into_iter().chain(wind) {
+        let (table, limit, before) = drawn(&mut rng, n, fits);
+        let opened = opened(script, limit, &table);
         let stable = to_stable(script, opened, &before);
         for call in calls(&mut rng, n) {
             call.add(script);
