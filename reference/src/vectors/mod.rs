@@ -10,6 +10,7 @@ mod neighbours;
 mod openings;
 mod passes;
 mod runs;
+mod stable;
 mod sweeps;
 mod turns;
 mod valleys;
@@ -37,6 +38,7 @@ pub fn script() -> Script {
     valleys::add(&mut script);
     ceilings::add(&mut script);
     turns::add(&mut script);
+    stable::add(&mut script);
     script
 }
 
@@ -58,6 +60,13 @@ pub fn ceilings() -> Script {
 pub fn turns() -> Script {
     let mut script = Script::default();
     turns::add(&mut script);
+    script
+}
+
+/// The section of stable states alone.
+pub fn stable() -> Script {
+    let mut script = Script::default();
+    stable::add(&mut script);
     script
 }
 

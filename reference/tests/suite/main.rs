@@ -18,6 +18,7 @@ mod pivots;
 mod programs;
 mod scripts;
 mod soundness;
+mod stable_vectors;
 mod states;
 mod stored;
 mod turn_faults;
