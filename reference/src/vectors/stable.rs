@@ -9,7 +9,7 @@
 
 mod calls;
 
-use self::calls::{calls, drawn, tells, winds, Call, Fits};
+use self::calls::{calls, drawn, needs_reopening, strikes_amid, Call, Fits};
 use crate::fast;
 use crate::gen::{chain_among, long_runs, loop_among, ring, ring_of_rungs};
 use crate::gen::{Family, Sheet, Xorshift};
@@ -174,10 +174,9 @@ fn most_stations(script: &mut Script) {
 /// Calls like those that led to the stable state do nothing on it.
 fn random_calls(script: &mut Script) {
     let mut rng = Xorshift::new(1501);
-    // Calls that tell are rare.
-    let tell = [5, 6, 8].map(|n| (n, tells as Fits));
-    let wind = [4, 7, 9, 10, 11, 12, 13, 14, 16].map(|n| (n, winds as Fits));
-    for (n, fits) in tell.into_iter().chain(wind) {
+    let rare = [5, 6, 8].map(|n| (n, needs_reopening as Fits));
+    let others = [4, 7, 9, 10, 11, 12, 13, 14, 16].map(|n| (n, strikes_amid as Fits));
+    for (n, fits) in rare.into_iter().chain(others) {
         let (table, limit, before) = drawn(&mut rng, n, fits);
         let opened = opened(script, limit, &table);
         let stable = to_stable(script, opened, &before);

@@ -75,14 +75,14 @@ pub type Fits = fn(WorkState, &[Call]) -> bool;
 
 /// Does a call by hand strike a leg in mid-cycle, and the last run one more before it
 /// ends stable?
-pub fn winds(opened: WorkState, calls: &[Call]) -> bool {
+pub fn strikes_amid(opened: WorkState, calls: &[Call]) -> bool {
     let [state, kept] = led_to(opened, calls);
     let ran = fast::run(state, u32::MAX);
     state != kept && ran.removed > 0 && ran.state.end == End::Stable
 }
 
 /// Does the last run strike legs that it would not have come to with place and mark kept?
-pub fn tells(opened: WorkState, calls: &[Call]) -> bool {
+pub fn needs_reopening(opened: WorkState, calls: &[Call]) -> bool {
     let ended = |state| fast::run(state, u32::MAX).state;
     let [late, early] = led_to(opened, calls).map(ended);
     late.end == End::Stable && early.end == End::Stable && late.rows != early.rows
