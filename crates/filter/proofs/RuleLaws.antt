@@ -1,13 +1,14 @@
--- Each rule is sound, and each place of the cycle has one that fits. Assumes nothing.
+-- Each rule is sound, each place of the cycle has one that fits, and each that fits has a place. Assumes nothing.
 use mathlib.Core.Path.{_≡_, refl, sym, ap, _∙_}
 use mathlib.Core.Bool.{false}
 use mathlib.Core.List.{List}
-use Prim.Native.Nat.{ℕ, zero, suc, pred, _-_, _≤_, _<_}
+use Prim.Native.Nat.{ℕ, zero, suc, pred, _-_, _≤_, _<_, zero-le}
 use native.Mathlib.Nat.{le-of-suc-le-suc}
 use native.Mathlib.Omega.{arith}
 use Rattle.circuit.specs.Round.{All}
 use Rattle.circuit.specs.Verdict.{Sound}
 use Rattle.circuit.specs.State.{lastPlace}
+use Rattle.bitset.proofs.BoolLaws.{clash}
 use Rattle.bitset.proofs.OutsideLaws.{inside, not-outside}
 use Rattle.filter.specs.declared.rule.Rule.{Rule}
 use Rattle.filter.specs.declared.rule.Rule.the-variants.{Sweep, Chain, Pass}
@@ -43,3 +44,9 @@ pub place-fits : (n k : ℕ) → k ≤ lastPlace n → straySeed n (ruleAt k) �
 place-fits n zero h = refl
 place-fits n (suc zero) h = refl
 place-fits n (suc (suc r)) h = not-outside 1 n (suc r) (omega arith) (le-of-suc-le-suc h)
+
+pub rule-placed : (n : ℕ) (r : Rule) → straySeed n r ≡ false → (k : ℕ) × (k ≤ lastPlace n) × (ruleAt k ≡ r)
+rule-placed n Sweep f = (0, zero-le, refl)
+rule-placed n Chain f = (1, omega arith, refl)
+rule-placed n (Pass zero) f = clash f
+rule-placed n (Pass (suc s)) f = (suc (suc s), omega (arith, inside 1 n (suc s) f .1), refl)

@@ -8,7 +8,6 @@ use native.Mathlib.Omega.{arith}
 use lib.Dec.{ltb}
 use lib.ListN.{length}
 use Rattle.bitset.proofs.BoolLaws.{clash, not-both}
-use Rattle.bitset.proofs.OutsideLaws.{inside}
 use Rattle.bitset.proofs.QuantLaws.{at-or-below}
 use Rattle.circuit.specs.declared.state.Work.{Work}
 use Rattle.circuit.specs.declared.verdict.Verdict.{Verdict}
@@ -20,7 +19,6 @@ use Rattle.circuit.specs.State.{isOpen, isNone, rowsOf, moved, lastPlace, Good}
 use Rattle.circuit.specs.Verdict.{leaves, Sound}
 use Rattle.circuit.proofs.StateLaws.{not-bad, moved-good}
 use Rattle.filter.specs.declared.rule.Rule.{Rule}
-use Rattle.filter.specs.declared.rule.Rule.the-variants.{Sweep, Chain, Pass}
 use Rattle.filter.specs.declared.hand.Called.{Called}
 use Rattle.filter.specs.declared.cycle.Ran.{Ran}
 use Rattle.filter.specs.Rule.{straySeed, ruleAt}
@@ -29,8 +27,8 @@ use Rattle.filter.specs.Stable.{Leaves, Fixpoint, anew, oneCycle, Stable
 use Rattle.filter.proofs.AfterLaws.{byHand-cases, handCall-cases, mark-clear, after-cases, runFrom-cases, runCall-cases}
 use Rattle.filter.proofs.CallLaws.{open-none, place-sound}
 use Rattle.filter.proofs.RemovalLaws.{left-same}
-use Rattle.filter.proofs.RuleLaws.{says-sound, place-fits}
-use Rattle.filter.proofs.RunLaws.{run-open, run-shut, run-good}
+use Rattle.filter.proofs.RuleLaws.{says-sound, place-fits, rule-placed}
+use Rattle.filter.proofs.RunLaws.{open-is, run-open, run-shut, run-good}
 
 open-stable : {A : Type 0} → Open ≡ Stable → A
 open-stable e = clash (ap isOpen e)
@@ -54,12 +52,9 @@ none-invariant w g long n =
 
 -- ---- one verdict
 
--- every rule stands at some place of the cycle
+-- what the rules at all places leave, every rule leaves
 by-places : (w : Work) → ((k : ℕ) → k ≤ lastPlace (w .n) → Leaves w (ruleAt k)) → Fixpoint w
-by-places w at Sweep f = at 0 zero-le
-by-places w at Chain f = at 1 (omega arith)
-by-places w at (Pass zero) f = clash f
-by-places w at (Pass (suc s)) f = at (suc (suc s)) (omega (arith, inside 1 (w .n) (suc s) f .1))
+by-places w at r f = let p = rule-placed (w .n) r f in subst (Leaves w) (p .2) (at (p .0) (p .1))
 
 module _ (w : Work) (v : Verdict) where
   -- a cycle ends stable only where the mark is clear
@@ -118,17 +113,11 @@ step-invariant : (w : Work) → w .end ≡ Open → CycleInvariant w → CycleIn
 unfolding step
 step-invariant w o I = after-invariant w (verdict w (ruleAt (w .place))) (place-sound w (I .good)) I o refl
 
--- an end that is open
-is-open : (end : End) → isOpen end ≡ true → end ≡ Open
-is-open Open e = refl
-is-open Stable e = clash (sym e)
-is-open None e = clash (sym e)
-
 from-invariant : (b : ℕ) (w : Work) → CycleInvariant w → CycleInvariant (runFrom b w .work)
 unfolding runFrom
 from-invariant zero w I = I
 from-invariant (suc b) w I =
-    runFrom-cases (λ (r : Ran). CycleInvariant (r .work)) b w (λ o. from-invariant b (step w .work) (step-invariant w (is-open (w .end) o) I)) (λ _. I)
+    runFrom-cases (λ (r : Ran). CycleInvariant (r .work)) b w (λ o. from-invariant b (step w .work) (step-invariant w (open-is (w .end) o) I)) (λ _. I)
 
 pub hand-invariant : (w : Work) (r : Rule) → CycleInvariant w → CycleInvariant (handCall w r .work)
 hand-invariant w r I =
