@@ -1,6 +1,7 @@
 //! Tables, sheets, states and split budgets made from a seed, the same ones on every machine.
 
 mod grids;
+mod last_seed;
 mod long_runs;
 mod shapes;
 mod splits;
@@ -12,6 +13,7 @@ use std::ops::RangeInclusive;
 use crate::card::{self, Number};
 use crate::table::{Leg, LegTable};
 
+pub use self::last_seed::{last_seed_alone, last_seed_tells};
 pub use self::long_runs::long_runs;
 pub use self::shapes::{band, Shape, Ways, SHAPES};
 pub use self::splits::{cut_at, split_budget};

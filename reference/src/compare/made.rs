@@ -2,7 +2,8 @@
 
 use super::valleys::{self, TellingTable};
 use crate::card::Number;
-use crate::gen::{self, damaged, long_runs, plant_round, random, wide_islands};
+use crate::gen::{self, damaged, last_seed_alone, long_runs};
+use crate::gen::{plant_round, random, wide_islands};
 use crate::gen::{Family, Sheet, Xorshift};
 use crate::table::{Leg, LegTable};
 
@@ -46,6 +47,7 @@ impl Made {
             _ if rng.percent(8) => sheet_of_islands(rng),
             _ if rng.percent(6) => striking_sheet(rng),
             _ if rng.percent(2) => sheet_of_a_long_run(rng),
+            _ if rng.percent(2) => sheet_of_the_last_seed(rng),
             _ => sheet_of_table(rng),
         }
     }
@@ -92,6 +94,17 @@ fn striking_sheet(rng: &mut Xorshift) -> Made {
         known: Known::Table(table),
         round: None,
         kind: Kind::Striking,
+    }
+}
+
+/// A run that leaves out the last pass would end stable too soon.
+fn sheet_of_the_last_seed(rng: &mut Xorshift) -> Made {
+    let table = last_seed_alone(rng);
+    Made {
+        bytes: any_sheet(rng, &table).bytes(),
+        known: Known::Table(table),
+        round: None,
+        kind: Kind::Any,
     }
 }
 

@@ -11,10 +11,6 @@ use crate::stable::{fault_of_state, fault_of_step, fault_of_stray_seed};
 use crate::state::{End, WorkState};
 use crate::written::WRITTEN_MOST;
 
-/// Of more stations a dozen of the seeds is drawn: all of them take long.
-const ALL_SEEDS_MOST: u64 = 24;
-const DRAWN_SEEDS: usize = 12;
-
 /// Stable states that came out as is said of them, and calls on them.
 #[derive(Clone, Debug, Default, PartialEq, Eq)]
 pub struct StableCounts {
@@ -50,6 +46,11 @@ impl StableCounts {
         let calls = [self.steps, self.stray, self.anew, self.sheets];
         !states.iter().chain(&calls).any(|&count| count == 0)
     }
+}
+
+fn steps_by_hand(n: u64) -> impl Iterator<Item = Call> {
+    let passes = (1..=n).map(|seed| Call::Pass { seed });
+    [Call::Sweep, Call::Chain].into_iter().chain(passes)
 }
 
 /// How the calls of a sequence have come to the current state.
@@ -93,7 +94,7 @@ impl Session<'_> {
     }
 
     fn steps_on(&mut self, stable: &WorkState) -> Found<()> {
-        for call in self.steps_by_hand() {
+        for call in steps_by_hand(stable.n) {
             self.step_on(stable, call, fault_of_step)?;
             self.counts.stable.steps += 1;
         }
@@ -102,20 +103,6 @@ impl Session<'_> {
             self.counts.stable.stray += 1;
         }
         Ok(())
-    }
-
-    fn steps_by_hand(&mut self) -> Vec<Call> {
-        let n = self.state.n;
-        let mut seeds: Vec<u64> = (1..=n).collect();
-        if n > ALL_SEEDS_MOST {
-            let drawn = self.rng.order(n as usize).into_iter().take(DRAWN_SEEDS);
-            seeds = drawn.map(|seed| seed as u64).collect();
-        }
-        let passes = seeds.into_iter().map(|seed| Call::Pass { seed });
-        [Call::Sweep, Call::Chain]
-            .into_iter()
-            .chain(passes)
-            .collect()
     }
 
     /// A call by hand on the current state, which a sound one hands back.
@@ -140,7 +127,7 @@ impl Session<'_> {
         let ran = self.run(budget)?;
         self.hold_to(*stable, fault_of_run(stable, &ran), &Answer::Ran(ran))?;
         let larger = self.rng.pick(&[cycle + 1, 2 * cycle, BUDGET, u32::MAX]);
-        for budget in [cycle - 1, cycle, larger] {
+        for budget in [cycle, cycle - 1, larger] {
             self.put(opened_anew(stable));
             self.run_anew(stable, budget)?;
         }
@@ -192,7 +179,7 @@ impl Session<'_> {
         let made_up = WorkState { end, ..kept };
         self.put(made_up);
         self.on_stable = true;
-        for call in self.steps_by_hand() {
+        for call in steps_by_hand(kept.n) {
             self.call(call)?;
             if self.state != made_up {
                 self.counts.stable.made_up += 1;
