@@ -456,7 +456,7 @@ impl Session<'_> {
         let (state, counts) = (&self.state, &mut self.counts);
         match (call, answer) {
             (Call::Chain, Answer::Handled(chained)) => counts.chains.note(state, chained),
-            (Call::Pass { seed }, Answer::Handled(passed)) => {
+            (Call::Pass { seed }, Answer::Handled(passed)) if (1..=state.n).contains(seed) => {
                 counts.islands.note(state, *seed, passed);
                 counts.neighbours.note_pass(state, *seed, passed);
             }

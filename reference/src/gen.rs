@@ -36,6 +36,11 @@ impl Xorshift {
         Xorshift { word }
     }
 
+    /// Another generator, which leaves the numbers of this one as they are.
+    pub fn apart(&self) -> Xorshift {
+        Xorshift::new(!self.word)
+    }
+
     pub fn word(&mut self) -> u64 {
         self.word ^= self.word << 13;
         self.word ^= self.word >> 7;

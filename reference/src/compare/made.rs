@@ -37,17 +37,17 @@ pub enum Known {
 }
 
 impl Made {
-    /// Every fourth sheet is damaged, with each number in turn, and every sixteenth one
-    /// is of valleys: few other tables tell what theirs do.
+    /// Every fourth sheet is damaged, with each number in turn. Every sixteenth one is of
+    /// valleys and every 64th one of the last seed: few other tables tell what theirs do.
     pub fn new(rng: &mut Xorshift, index: u64) -> Made {
         match index % 16 {
+            _ if index % 64 == 57 => sheet_of_the_last_seed(rng),
             3 | 7 | 11 | 15 => damaged_sheet(rng, 1 + (index / 4 % 5) as Number),
             5 => sheet_of_valleys(rng),
             _ if rng.percent(10) => random_sheet(rng),
             _ if rng.percent(8) => sheet_of_islands(rng),
             _ if rng.percent(6) => striking_sheet(rng),
             _ if rng.percent(2) => sheet_of_a_long_run(rng),
-            _ if rng.percent(2) => sheet_of_the_last_seed(rng),
             _ => sheet_of_table(rng),
         }
     }

@@ -1,10 +1,11 @@
 //! Stable states get every step by hand again, and are opened anew.
 
+use std::mem;
+
 use super::call::{Answer, Call};
 use super::{Found, Session};
 use crate::hand::Handled;
 use crate::program::BUDGET;
-use crate::sheet::Opened;
 use crate::stable::{cycle, opened_anew, stray_seeds, Fault};
 use crate::stable::{fault_of_run, fault_of_run_anew, fault_of_sheet};
 use crate::stable::{fault_of_state, fault_of_step, fault_of_stray_seed};
@@ -82,11 +83,11 @@ impl Session<'_> {
         if let Some(reason) = fault_of_state(&stable) {
             return Err(self.difference(reason, &stable));
         }
-        self.on_stable = true;
-        self.steps_on(&stable)?;
-        self.runs_on(&stable)?;
-        self.sheet_of(&stable)?;
-        self.on_stable = false;
+        self.apart(|session| {
+            session.steps_on(&stable)?;
+            session.runs_on(&stable)?;
+            session.sheet_of(&stable)
+        })?;
         self.put(stable);
         self.counts.stable.states += 1;
         self.counts.stable.after_hand += u64::from(self.way.by_hand);
@@ -150,12 +151,10 @@ impl Session<'_> {
         self.put(*stable);
         let sheet = self.call(Call::Write { length })?.written().to_vec();
         let answer = self.call(Call::OpenWritten { limit, sheet })?;
-        let opened: &Opened = match &answer {
-            Answer::Opened(opened) => opened,
-            _ => unreachable!("an opening answers {answer}"),
+        let Answer::Opened(opened) = &answer else {
+            unreachable!("an opening answers {answer}");
         };
         self.hold_to(*stable, fault_of_sheet(stable, opened), &answer)?;
-        self.put(opened.state);
         self.run_anew(stable, cycle(stable))?;
         self.counts.stable.sheets += 1;
         Ok(())
@@ -178,16 +177,27 @@ impl Session<'_> {
         let end = End::Stable;
         let made_up = WorkState { end, ..kept };
         self.put(made_up);
-        self.on_stable = true;
-        for call in steps_by_hand(kept.n) {
-            self.call(call)?;
-            if self.state != made_up {
-                self.counts.stable.made_up += 1;
-                break;
+        self.apart(|session| {
+            let mut calls = steps_by_hand(kept.n);
+            while let (Some(call), true) = (calls.next(), session.state == made_up) {
+                session.call(call)?;
             }
-        }
-        self.on_stable = false;
+            Ok(())
+        })?;
+        self.counts.stable.made_up += u64::from(self.state != made_up);
         self.put(kept);
+        Ok(())
+    }
+
+    /// Calls with draws of their own: the other calls of a sequence are the same without
+    /// them.
+    fn apart(&mut self, calls: impl FnOnce(&mut Self) -> Found<()>) -> Found<()> {
+        let own = self.rng.apart();
+        let kept = mem::replace(&mut self.rng, own);
+        self.on_stable = true;
+        calls(self)?;
+        self.on_stable = false;
+        self.rng = kept;
         Ok(())
     }
 }
