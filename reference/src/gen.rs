@@ -13,7 +13,7 @@ use std::ops::RangeInclusive;
 use crate::card::{self, Number};
 use crate::table::{Leg, LegTable};
 
-pub use self::last_seed::{last_seed_alone, last_seed_tells};
+pub use self::last_seed::last_seed_alone;
 pub use self::long_runs::long_runs;
 pub use self::shapes::{band, Shape, Ways, SHAPES};
 pub use self::splits::{cut_at, split_budget};

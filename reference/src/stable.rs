@@ -51,10 +51,8 @@ fn fault_by_hand(calls: &dyn Calls, stable: &WorkState) -> Fault {
 }
 
 fn fault_by_stray_seed(calls: &dyn Calls, stable: &WorkState) -> Fault {
-    let mut passes = stray_seeds(stable.n).map(|seed| calls.pass(*stable, seed));
-    passes
-        .iter_mut()
-        .find_map(|passed| fault_of_stray_seed(stable, passed))
+    let mut seeds = stray_seeds(stable.n).into_iter();
+    seeds.find_map(|seed| fault_of_stray_seed(stable, &calls.pass(*stable, seed)))
 }
 
 fn fault_by_run(calls: &dyn Calls, stable: &WorkState) -> Fault {
@@ -115,7 +113,7 @@ pub fn fault_of_run(stable: &WorkState, ran: &Ran) -> Fault {
         steps: 0,
         removed: 0,
     };
-    (*ran != expected).then_some("a run on a stable state does not leave it at once")
+    (*ran != expected).then_some("a run on a stable state takes a step or changes it")
 }
 
 /// Of a run with this budget on the stable state opened anew: it takes one cycle, or as

@@ -19,7 +19,7 @@ pub fn last_seed_alone(rng: &mut Xorshift) -> LegTable {
 }
 
 /// Does the pass with the last seed remove legs where all other steps leave the table?
-pub fn last_seed_tells(table: &LegTable) -> bool {
+fn last_seed_tells(table: &LegTable) -> bool {
     let mut state = WorkState::opened(table, LARGEST_LIMIT);
     loop {
         let legs = state.legs();

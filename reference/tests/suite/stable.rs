@@ -1,13 +1,17 @@
 //! Stable states that calls from an opened sheet have led to stay as they are (W-212).
 
 use reference::compare::{watch_sheet, Counts};
-use reference::gen::{all_tables, any_table, split_budget, Family, Xorshift, SHAPES};
+use reference::gen::{all_tables, any_table, last_seed_alone, split_budget};
+use reference::gen::{Family, Xorshift, SHAPES};
+use reference::hand::Verdict;
 use reference::paper::{petersen, NINE_LEGS};
+use reference::pass::pass_table;
 use reference::program::BUDGET;
 use reference::rounds::{drivable_legs, rounds};
+use reference::run::run_with;
 use reference::stable::{cycle, fault, fault_of_run_anew, fault_of_step, opened_anew};
 use reference::turns::take;
-use reference::{card, open, Calls, End, LegTable, Plain, Telling, WorkState};
+use reference::{card, open, Calls, End, Fast, LegTable, Plain, Telling, WorkState};
 
 use crate::{opened, ALL, FAST};
 
@@ -192,6 +196,24 @@ fn a_made_up_stable_state_may_change() {
         assert!(fault(calls, &made_up).is_some());
         // A run believes the end.
         assert_eq!(calls.run(made_up, BUDGET).state, made_up);
+    }
+}
+
+/// The tables made for the last seed need its pass: without it there is more to do.
+#[test]
+fn the_last_seed_alone_removes_legs() {
+    let mut rng = Xorshift::new(87);
+    for _ in 0..100 {
+        let state = opened(&last_seed_alone(&mut rng));
+        let n = state.n as usize;
+        let without = run_with(state, BUDGET, |table, seed, limit| match seed {
+            seed if seed == n => Verdict::Undecided,
+            _ => pass_table(table, seed, limit),
+        });
+        let stable = without.state;
+        assert_eq!(stable.end, End::Stable);
+        let idle = (1..n as u64).all(|seed| Fast.pass(stable, seed).state == stable);
+        assert!(idle && Fast.pass(stable, n as u64).removed > 0);
     }
 }
 

@@ -23,7 +23,7 @@ const NONE: &str = "a step by hand gives none on a stable state";
 const CHANGES: &str = "a step by hand removes nothing, but changes a stable state";
 const STRAY_TAKEN: &str = "a stray seed is not refused on a stable state";
 const STRAY_CHANGES: &str = "a stray seed changes a stable state";
-const RUN: &str = "a run on a stable state does not leave it at once";
+const RUN: &str = "a run on a stable state takes a step or changes it";
 const ANEW_STEPS: &str = "a stable state opened anew does not take the steps of one cycle";
 const ANEW_STATE: &str = "a stable state opened anew comes to another state";
 
@@ -139,13 +139,6 @@ fn opens(_: &WorkState, mut step: Handled) -> Handled {
     step
 }
 
-fn moves(_: &WorkState, mut step: Handled) -> Handled {
-    if step.number == card::TAKEN && step.state.end == End::Stable {
-        step.state.place = 1;
-    }
-    step
-}
-
 fn refuses(state: &WorkState, mut step: Handled) -> Handled {
     if step.number == card::TAKEN && state.end == End::Stable {
         step.number = card::BAD_WORK_STATE;
@@ -179,9 +172,8 @@ fn opens_by_stray_seed(_: &WorkState, mut step: Handled) -> Handled {
     step
 }
 
-const STEP_FAULTS: [(StepFault, &str); 7] = [
+const STEP_FAULTS: [(StepFault, &str); 6] = [
     (opens, CHANGES),
-    (moves, CHANGES),
     (refuses, REFUSED),
     (counts_one, REMOVES),
     (gives_none, NONE),
@@ -197,12 +189,17 @@ fn reasons(calls: &dyn Calls, seed: u64, sheets: u64) -> BTreeSet<&'static str> 
     reasons.filter(|reason| reason.contains("stable")).collect()
 }
 
+/// The last pass is hardly missed but on the tables made for it.
 #[test]
 fn the_watch_finds_each_fault_of_runs() {
     for (fault, expected) in RUN_FAULTS {
         for seed in 1..=3 {
-            let found = reasons(&fault.calls(), seed, 600);
-            assert!(found.contains(expected), "{fault:?}: {found:?}");
+            let mut sheets = 0..1_000;
+            let found = sheets.any(|index| {
+                let watched = watch_sheet(&fault.calls(), seed, index);
+                watched.is_err_and(|difference| difference.reason == expected)
+            });
+            assert!(found, "{fault:?} is not found with seed {seed}");
         }
     }
 }
