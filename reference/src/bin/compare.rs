@@ -171,7 +171,7 @@ fn tell(seed: u64, sheets: u64, counts: &Counts) {
     );
     let stable = &counts.stable;
     println!(
-        "  stable states: {} reached, {} of them after legs removed by hand; {} steps by hand left them as they were, {} stray seeds were refused, {} runs on them opened anew came back in one cycle, {} by their sheet; {} made-up ones changed",
+        "  stable states: {} reached, {} of them after legs removed by hand; {} steps by hand left them as they were, {} stray seeds were refused, {} runs on them opened anew came back in one cycle, {} of them by their sheet; {} made-up ones changed",
         stable.states, stable.after_hand, stable.steps, stable.stray, stable.anew, stable.sheets, stable.made_up
     );
 }
