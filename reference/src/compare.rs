@@ -8,6 +8,7 @@ mod draw;
 mod islands;
 mod made;
 pub mod neighbours;
+pub mod stable;
 pub mod turns;
 pub mod valleys;
 mod watch;
@@ -21,6 +22,7 @@ use self::ceilings::CeilingCounts;
 use self::difference::Step;
 use self::made::{Kind, Known};
 use self::neighbours::NeighbourCounts;
+use self::stable::{StableCounts, Way};
 use self::turns::TurnCounts;
 use self::valleys::ValleyCounts;
 use self::watch::Watch;
@@ -59,6 +61,7 @@ pub struct Counts {
     pub written: WrittenCounts,
     pub ceilings: CeilingCounts,
     pub turns: TurnCounts,
+    pub stable: StableCounts,
 }
 
 /// Chain steps by hand that were not refused, by what they did.
@@ -112,6 +115,7 @@ impl Counts {
         self.written.add(&other.written);
         self.ceilings.add(&other.ceilings);
         self.turns.add(&other.turns);
+        self.stable.add(&other.stable);
     }
 
     /// What is still missing of the calls that so many sheets have.
@@ -126,6 +130,8 @@ impl Counts {
             Some("ceilings")
         } else if !self.turns.complete() {
             Some("turns")
+        } else if !self.stable.complete() {
+            Some("stable states")
         } else {
             None
         }
@@ -179,6 +185,8 @@ fn go_through(tested: &dyn Calls, seed: u64, index: u64, judge: Judge) -> Found<
         state: WorkState::BLANK,
         watch: Watch::nothing(),
         in_turns: false,
+        on_stable: false,
+        way: Way::default(),
         steps: Vec::new(),
         counts: Counts::default(),
     };
@@ -202,6 +210,9 @@ struct Session<'a> {
     watch: Watch,
     /// Are the runs those of a split budget?
     in_turns: bool,
+    /// Are the calls those on a stable state, or on one opened anew?
+    on_stable: bool,
+    way: Way,
     steps: Vec<Step>,
     counts: Counts,
 }
@@ -271,7 +282,8 @@ impl Session<'_> {
     /// Writes, runs with their ceiling, runs in turns and a chain step on the opened state,
     /// on some tables passes and other runs too, then calls in any order, the whole run, and
     /// more calls on the ended state: runs in turns, some of any kind, then reports and
-    /// writes into buffers of every length that matters.
+    /// writes into buffers of every length that matters. Each stable state is held to what
+    /// is said of it.
     fn sequence(&mut self) -> Found<()> {
         self.writes()?;
         self.ceilings_and_back()?;
@@ -292,6 +304,7 @@ impl Session<'_> {
         }
         let budget = u32::MAX;
         self.call(Call::Run { budget })?;
+        self.hold_stable()?;
         self.turns_and_back()?;
         for _ in 0..3 {
             self.any_call()?;
@@ -346,9 +359,10 @@ impl Session<'_> {
 
     /// A call on the same state as the one before had.
     fn second_try(&mut self) -> Found<()> {
-        let kept = self.state;
+        let (kept, by_hand) = (self.state, self.way.by_hand);
         self.any_call()?;
         self.put(kept);
+        self.way.by_hand = by_hand;
         self.any_call()
     }
 
@@ -371,21 +385,28 @@ impl Session<'_> {
         }
         self.watch = Watch::nothing();
         self.call(Call::Open { limit: 64 })?;
+        self.made_up_stable()?;
         let moved = draw::moved(&mut self.rng, &self.state);
         self.put(moved);
         self.writes()?;
         self.chain_and_back()?;
         self.turns_of_no_opening()?;
         for _ in 0..4 {
-            self.any_call()?;
+            self.drawn_call()?;
         }
         Ok(())
     }
 
+    /// A call of a sequence; a stable state that it leads to is held to what is said of it.
     fn any_call(&mut self) -> Found<()> {
+        let answer = self.drawn_call()?;
+        self.way.note(&answer);
+        self.hold_stable()
+    }
+
+    fn drawn_call(&mut self) -> Found<Answer> {
         let call = draw::call(&mut self.rng, &self.state, &self.watch.rounds);
-        self.call(call)?;
-        Ok(())
+        self.call(call)
     }
 
     fn each_call(&mut self) -> Found<()> {
@@ -426,15 +447,16 @@ impl Session<'_> {
         Ok(answer)
     }
 
-    /// Counts a chain step, a pass or a run by what it did to the current state.
+    /// Counts a chain step, a pass or a run by what it did to the current state. Stable
+    /// ones have counts of their own.
     fn count_taken(&mut self, call: &Call, answer: &Answer) {
-        if answer.number() != card::TAKEN {
+        if answer.number() != card::TAKEN || self.on_stable {
             return;
         }
         let (state, counts) = (&self.state, &mut self.counts);
         match (call, answer) {
             (Call::Chain, Answer::Handled(chained)) => counts.chains.note(state, chained),
-            (Call::Pass { seed }, Answer::Handled(passed)) => {
+            (Call::Pass { seed }, Answer::Handled(passed)) if (1..=state.n).contains(seed) => {
                 counts.islands.note(state, *seed, passed);
                 counts.neighbours.note_pass(state, *seed, passed);
             }
@@ -455,6 +477,8 @@ impl Session<'_> {
         let chance = match (call, self.state.n) {
             (Call::Open { .. } | Call::OpenWritten { .. } | Call::Write { .. }, _) => 100,
             (_, 0..=12) => 100,
+            (_, 13..=24) if self.on_stable => 5,
+            (_, 25..=64) if self.on_stable => 1,
             (Call::Run { budget: 5.. }, 13..=24) if self.in_turns => 5,
             (Call::Run { budget: 5.. }, 25..=64) if self.in_turns => 1,
             (Call::Run { .. }, 13..=24) => 50,

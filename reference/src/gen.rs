@@ -1,6 +1,7 @@
 //! Tables, sheets, states and split budgets made from a seed, the same ones on every machine.
 
 mod grids;
+mod last_seed;
 mod long_runs;
 mod shapes;
 mod splits;
@@ -12,6 +13,7 @@ use std::ops::RangeInclusive;
 use crate::card::{self, Number};
 use crate::table::{Leg, LegTable};
 
+pub use self::last_seed::last_seed_alone;
 pub use self::long_runs::long_runs;
 pub use self::shapes::{band, Shape, Ways, SHAPES};
 pub use self::splits::{cut_at, split_budget};
@@ -32,6 +34,11 @@ impl Xorshift {
         // Spread small seeds; the word must not be zero, or it stays zero.
         let word = seed.wrapping_mul(0x9E37_79B9_7F4A_7C15) | 1;
         Xorshift { word }
+    }
+
+    /// Another generator, which leaves the numbers of this one as they are.
+    pub fn apart(&self) -> Xorshift {
+        Xorshift::new(!self.word)
     }
 
     pub fn word(&mut self) -> u64 {

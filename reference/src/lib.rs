@@ -28,6 +28,7 @@ pub mod rounds;
 pub mod run;
 pub mod script;
 pub mod sheet;
+pub mod stable;
 pub mod state;
 pub mod sweep;
 pub mod table;

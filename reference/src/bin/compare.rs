@@ -3,7 +3,8 @@
 //! `compare [--seed S] [--sheets COUNT]` goes through that many made-up sheets,
 //! `compare --seed S --sheet K` through a single one of them again. A difference
 //! ends it with status 1, and so does, after many sheets, a count of neighbours, of
-//! written sheets, of ceilings or of turns that is still 0, or too few tables of valleys.
+//! written sheets, of ceilings, of turns or of stable states that is still 0, or too few
+//! tables of valleys.
 
 use std::process::ExitCode;
 use std::str::FromStr;
@@ -167,6 +168,11 @@ fn tell(seed: u64, sheets: u64, counts: &Counts) {
     println!(
         "  turns: {} split budgets, {} cut in mid-cycle with the mark set, {} ended before the last turn, {} with a turn of 0, {} with the sum 4294967295, {} on bad states with 7 each time, {} from states that no opening gives",
         turns.splits, turns.marked, turns.ended_before, turns.with_zero, turns.largest, turns.refused, turns.of_no_opening
+    );
+    let stable = &counts.stable;
+    println!(
+        "  stable states: {} reached, {} of them after legs removed by hand; {} steps by hand left them as they were, {} stray seeds were refused, {} runs on them opened anew came back in one cycle, {} of them by their sheet; {} made-up ones changed",
+        stable.states, stable.after_hand, stable.steps, stable.stray, stable.anew, stable.sheets, stable.made_up
     );
 }
 

@@ -2,7 +2,8 @@
 
 use super::valleys::{self, TellingTable};
 use crate::card::Number;
-use crate::gen::{self, damaged, long_runs, plant_round, random, wide_islands};
+use crate::gen::{self, damaged, last_seed_alone, long_runs};
+use crate::gen::{plant_round, random, wide_islands};
 use crate::gen::{Family, Sheet, Xorshift};
 use crate::table::{Leg, LegTable};
 
@@ -36,10 +37,11 @@ pub enum Known {
 }
 
 impl Made {
-    /// Every fourth sheet is damaged, with each number in turn, and every sixteenth one
-    /// is of valleys: few other tables tell what theirs do.
+    /// Every fourth sheet is damaged, with each number in turn. Every sixteenth one is of
+    /// valleys and every 64th one of the last seed: few other tables tell what theirs do.
     pub fn new(rng: &mut Xorshift, index: u64) -> Made {
         match index % 16 {
+            _ if index % 64 == 57 => sheet_of_the_last_seed(rng),
             3 | 7 | 11 | 15 => damaged_sheet(rng, 1 + (index / 4 % 5) as Number),
             5 => sheet_of_valleys(rng),
             _ if rng.percent(10) => random_sheet(rng),
@@ -92,6 +94,17 @@ fn striking_sheet(rng: &mut Xorshift) -> Made {
         known: Known::Table(table),
         round: None,
         kind: Kind::Striking,
+    }
+}
+
+/// A run that leaves out the last pass would end stable too soon.
+fn sheet_of_the_last_seed(rng: &mut Xorshift) -> Made {
+    let table = last_seed_alone(rng);
+    Made {
+        bytes: any_sheet(rng, &table).bytes(),
+        known: Known::Table(table),
+        round: None,
+        kind: Kind::Any,
     }
 }
 

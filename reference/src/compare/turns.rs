@@ -129,7 +129,7 @@ impl Session<'_> {
         budgets.iter().map(turn).collect()
     }
 
-    fn run(&mut self, budget: u32) -> Found<Ran> {
+    pub fn run(&mut self, budget: u32) -> Found<Ran> {
         match self.call(Call::Run { budget })? {
             Answer::Ran(ran) => Ok(ran),
             answer => unreachable!("a run answers {answer}"),

@@ -1,7 +1,7 @@
 //! What the C interface promises beyond the calls themselves: states of too few
 //! or too many words, marks and ends that are none, runs in turns on the same lent
-//! words, and the whole program in one call. Then the components alone, as they are
-//! measured.
+//! words, steps by hand on stable ones, and the whole program in one call. Then the
+//! components alone, as they are measured.
 
 use std::collections::BTreeSet;
 
@@ -13,6 +13,7 @@ use crate::gen::{any_state, any_table, ring, split_budget};
 use crate::gen::{wide_islands, Family, Sheet, Xorshift};
 use crate::paper::{NINE_LEGS, NINE_LEGS_OUTPUT};
 use crate::program::{self, BUDGET, PRINT_MOST};
+use crate::stable::stray_seeds;
 use crate::state::{End, Rows, WorkState};
 use crate::table::{stations_of, word_of, LegTable};
 use crate::turns::budget_of;
@@ -270,6 +271,59 @@ fn a_run_with_a_budget_of_0_changes_no_word() {
         };
         assert_eq!(run_on_words(&words, &[0, 0]), unchanged);
     }
+}
+
+/// The word of a stable end.
+const STABLE: u64 = 1;
+
+/// Lent words that a sheet was opened into and run on, with their number of stations, if
+/// the end is stable. Behind the state there are up to 40 more words.
+fn stable_words(rng: &mut Xorshift) -> Option<(usize, Vec<u64>)> {
+    let most = rng.pick(&[8, 8, 16, 64]);
+    let n = rng.between(2, most);
+    let sheet = written_sheet(&any_table(rng, n));
+    let limit = rng.pick(&[1, 2, 64]);
+    let length = STATE_WORDS + rng.pick(&[0, 0, 1, 40]);
+    let mut words: Vec<u64> = (0..length).map(|_| rng.word()).collect();
+    let (mut place, mut steps, mut removed) = (0, 0, 0);
+    let opened = raw::open(&sheet, limit, &mut words, &mut place);
+    let ran = raw::run(&mut words, BUDGET, &mut steps, &mut removed);
+    assert_eq!([opened, ran], [card::TAKEN.into(); 2]);
+    (words[END] == STABLE).then_some((n, words))
+}
+
+/// A call by hand answers this number, removes no leg and changes no word lent.
+fn assert_leaves(words: &[u64], number: Number, call: impl Fn(&mut [u64], &mut u32) -> u32) {
+    let (mut lent, mut removed) = (words.to_vec(), u32::MAX);
+    let answer = call(&mut lent, &mut removed);
+    assert_eq!((answer, removed), (number.into(), 0));
+    assert_eq!(lent, words);
+}
+
+#[test]
+fn calls_on_a_stable_state_change_no_word() {
+    let mut rng = Xorshift::new(37);
+    let mut stable = 0;
+    for (n, words) in (0..6_000).filter_map(|_| stable_words(&mut rng)) {
+        assert_leaves(&words, card::TAKEN, raw::sweep);
+        assert_leaves(&words, card::TAKEN, raw::chain);
+        let pass = |seed| move |lent: &mut [u64], to: &mut u32| raw::pass(lent, seed, to);
+        for seed in 1..=n {
+            assert_leaves(&words, card::TAKEN, pass(seed));
+        }
+        for seed in stray_seeds(n as u64) {
+            assert_leaves(&words, card::STRAY_SEED, pass(seed as usize));
+        }
+        let unchanged = Leaves {
+            numbers: vec![card::TAKEN.into(); 3],
+            words: words.clone(),
+            steps: 0,
+            removed: 0,
+        };
+        assert_eq!(run_on_words(&words, &[0, 1, u32::MAX]), unchanged);
+        stable += 1;
+    }
+    assert!(stable > 2_000, "{stable}");
 }
 
 const HEADER: &str = include_str!("../../../include/loungeegret.h");

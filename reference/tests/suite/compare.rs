@@ -3,6 +3,7 @@
 use std::collections::BTreeSet;
 
 use reference::compare::ceilings::CeilingCounts;
+use reference::compare::stable::StableCounts;
 use reference::compare::turns::TurnCounts;
 use reference::compare::{compare_sheet, Counts};
 use reference::filled::fill;
@@ -77,6 +78,15 @@ fn fast_calls_differ_nowhere() {
         };
         assert_eq!(counts.missing(1_000), Some("turns"));
     }
+    let stable = &counts.stable;
+    assert!(stable.states > 300 && stable.after_hand > 80 && stable.steps > 4_000);
+    assert!(stable.stray > 1_200 && stable.anew > 900 && stable.sheets > 300);
+    assert!(stable.made_up > 100);
+    let counts = Counts {
+        stable: StableCounts::default(),
+        ..counts
+    };
+    assert_eq!(counts.missing(1_000), Some("stable states"));
 }
 
 fn without_one_count(ceilings: &CeilingCounts) -> [CeilingCounts; 4] {

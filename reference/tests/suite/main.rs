@@ -18,6 +18,8 @@ mod pivots;
 mod programs;
 mod scripts;
 mod soundness;
+mod stable;
+mod stable_faults;
 mod stable_vectors;
 mod states;
 mod stored;

@@ -1,4 +1,5 @@
-//! The fast calls with runs of another kind, for what a comparison has to find.
+//! The fast calls with runs or steps by hand of another kind, for what a comparison has
+//! to find.
 
 use reference::hand::Handled;
 use reference::list::Checked;
@@ -6,28 +7,46 @@ use reference::run::Ran;
 use reference::sheet::Opened;
 use reference::{Calls, Fast, Filled, WorkState};
 
-/// Makes a run of the state and the budget.
-pub struct OtherRuns<R>(pub R);
+/// Makes a run of the state and the budget, and hands on what a step by hand on the
+/// state has answered.
+pub struct OtherRuns<R, H> {
+    run: R,
+    by_hand: H,
+}
 
-impl<R: Fn(WorkState, u32) -> Ran> Calls for OtherRuns<R> {
+pub fn other_runs(run: impl Fn(WorkState, u32) -> Ran) -> impl Calls {
+    let by_hand = |_: &WorkState, handled| handled;
+    OtherRuns { run, by_hand }
+}
+
+pub fn other_steps(by_hand: impl Fn(&WorkState, Handled) -> Handled) -> impl Calls {
+    let run = |state, budget| Fast.run(state, budget);
+    OtherRuns { run, by_hand }
+}
+
+impl<R, H> Calls for OtherRuns<R, H>
+where
+    R: Fn(WorkState, u32) -> Ran,
+    H: Fn(&WorkState, Handled) -> Handled,
+{
     fn open(&self, sheet: &[u8], limit: u64) -> Opened {
         Fast.open(sheet, limit)
     }
 
     fn sweep(&self, state: WorkState) -> Handled {
-        Fast.sweep(state)
+        (self.by_hand)(&state, Fast.sweep(state))
     }
 
     fn chain(&self, state: WorkState) -> Handled {
-        Fast.chain(state)
+        (self.by_hand)(&state, Fast.chain(state))
     }
 
     fn pass(&self, state: WorkState, seed: u64) -> Handled {
-        Fast.pass(state, seed)
+        (self.by_hand)(&state, Fast.pass(state, seed))
     }
 
     fn run(&self, state: WorkState, budget: u32) -> Ran {
-        (self.0)(state, budget)
+        (self.run)(state, budget)
     }
 
     fn list_check(&self, state: &WorkState, numbers: &[u8]) -> Checked {

@@ -8,7 +8,7 @@ use reference::run::Ran;
 use reference::turns::{budget_of, fault, take};
 use reference::{card, open, paper, vectors, Calls, End, Fast, WorkState};
 
-use crate::other_runs::OtherRuns;
+use crate::other_runs::other_runs;
 use crate::scripts::answers;
 
 #[derive(Clone, Copy, Debug, PartialEq, Eq)]
@@ -99,7 +99,7 @@ impl Fault {
     /// The fast calls with runs of this fault.
     fn calls(self) -> impl Calls {
         let last = Cell::new(Fast.run(WorkState::BLANK, 0));
-        OtherRuns(move |state, budget| {
+        other_runs(move |state, budget| {
             let ran = self.run(&last.get(), state, budget);
             last.set(ran);
             ran
@@ -107,9 +107,12 @@ impl Fault {
     }
 }
 
-/// Why the watches refuse an answer, with no other calls beside them.
+/// Why the watches refuse an answer, with no other calls beside them. What is said of
+/// stable states is left out.
 fn watched(calls: &dyn Calls, seed: u64, sheets: u64) -> Option<&'static str> {
-    (0..sheets).find_map(|index| watch_sheet(calls, seed, index).err().map(|e| e.reason))
+    let found = (0..sheets).filter_map(|index| watch_sheet(calls, seed, index).err());
+    let mut reasons = found.map(|difference| difference.reason);
+    reasons.find(|reason| !reason.contains("stable"))
 }
 
 #[test]
@@ -181,7 +184,7 @@ fn the_vectors_tell_each_fault_of_turns() {
 #[test]
 fn steps_that_go_on_are_found() {
     let counted = Cell::new(0);
-    let calls = OtherRuns(move |state, budget| {
+    let calls = other_runs(move |state, budget| {
         let mut ran = Fast.run(state, budget);
         counted.set(counted.get() + ran.steps);
         ran.steps = counted.get();
@@ -210,7 +213,7 @@ fn steps_of_the_budget(state: WorkState, budget: u32) -> Ran {
 /// where the budget is above it.)
 #[test]
 fn steps_of_the_budget_add_up_and_differ() {
-    let calls = OtherRuns(steps_of_the_budget);
+    let calls = other_runs(steps_of_the_budget);
     let mut rng = Xorshift::new(75);
     for _ in 0..500 {
         let n = rng.between(2, 24);
