@@ -1,23 +1,23 @@
 //! What the C interface promises beyond the calls themselves: states of too few
-//! or too many words, marks and ends that are none, runs in turns on the same lent
-//! words, steps by hand on stable ones, and the whole program in one call. Then the
-//! components alone, as they are measured.
+//! or too many words, marks and ends that are none, and the whole program in one call;
+//! runs in turns on the same lent words, and calls on stable ones. Then the components
+//! alone, as they are measured.
+
+mod stable;
+mod turns;
 
 use std::collections::BTreeSet;
 
 use super::{measured, raw, NO_STATE};
 use crate::calls::Fast;
-use crate::card::{self, Number};
+use crate::card;
 use crate::filled::fill;
-use crate::gen::{any_state, any_table, ring, split_budget};
-use crate::gen::{wide_islands, Family, Sheet, Xorshift};
+use crate::gen::{any_table, ring, wide_islands, Family, Sheet, Xorshift};
 use crate::paper::{NINE_LEGS, NINE_LEGS_OUTPUT};
 use crate::program::{self, BUDGET, PRINT_MOST};
-use crate::stable::stray_seeds;
 use crate::state::{End, Rows, WorkState};
 use crate::table::{stations_of, word_of, LegTable};
-use crate::turns::budget_of;
-use crate::words::{to_words, Words, END, LIMIT, MARK, N, PLACE, STATE_WORDS};
+use crate::words::{to_words, Words, END, MARK, STATE_WORDS};
 use crate::written::{written_sheet, WRITTEN_MOST};
 use crate::{fast, graph};
 
@@ -163,167 +163,6 @@ fn a_mark_or_end_that_is_none_is_a_bad_state() {
             }
         }
     }
-}
-
-/// What a row of runs on the same words leaves: the number of each, the steps and
-/// removals of all.
-#[derive(Debug, PartialEq, Eq)]
-struct Leaves {
-    numbers: Vec<u32>,
-    words: Vec<u64>,
-    steps: u64,
-    removed: u64,
-}
-
-/// Runs on the words as they are lent, one after the other. What a run has to write
-/// holds a value before that no run gives.
-fn run_on_words(words: &[u64], budgets: &[u32]) -> Leaves {
-    let mut leaves = Leaves {
-        numbers: Vec::new(),
-        words: words.to_vec(),
-        steps: 0,
-        removed: 0,
-    };
-    for &budget in budgets {
-        let (mut steps, mut removed) = (u32::MAX, u32::MAX);
-        let number = raw::run(&mut leaves.words, budget, &mut steps, &mut removed);
-        leaves.numbers.push(number);
-        leaves.steps += u64::from(steps);
-        leaves.removed += u64::from(removed);
-    }
-    leaves
-}
-
-/// Small ones are more common.
-fn drawn_state(rng: &mut Xorshift) -> WorkState {
-    let most = rng.pick(&[8, 8, 16, 64]);
-    let n = rng.between(2, most);
-    any_state(rng, n)
-}
-
-/// One word that no good state of n stations has.
-fn spoil(rng: &mut Xorshift, n: usize, words: &mut [u64]) {
-    let (at, wrong) = match rng.below(6) {
-        0 => (N, rng.pick(&[0, 1, 65])),
-        1 => (LIMIT, rng.pick(&[0, 65])),
-        2 => (PLACE, n as u64 + 2),
-        3 => (MARK, 2),
-        4 => (END, 3),
-        _ => {
-            let own = rng.below(n);
-            words[own] |= 1 << own;
-            return;
-        }
-    };
-    let wide = rng.pick(&[1 << 32, 1 << 63, u64::MAX]);
-    words[at] = if rng.percent(70) { wrong } else { wide };
-}
-
-/// A state in lent words, one in six of them bad, and behind it up to 40 more words; and
-/// the number of a run on them.
-fn lent_words(rng: &mut Xorshift, state: &WorkState) -> (Vec<u64>, Number) {
-    let mut words = to_words(state).to_vec();
-    let mut number = card::TAKEN;
-    if rng.below(6) == 0 {
-        spoil(rng, state.n as usize, &mut words);
-        number = card::BAD_WORK_STATE;
-    }
-    let behind = rng.pick(&[0, 0, 1, 40]);
-    words.extend((0..behind).map(|_| rng.word()));
-    (words, number)
-}
-
-#[test]
-fn runs_in_turns_on_the_same_words_leave_what_one_run_leaves() {
-    let mut rng = Xorshift::new(35);
-    let (mut refused, mut cut) = (0, 0);
-    for _ in 0..24_000 {
-        let state = drawn_state(&mut rng);
-        let budgets = split_budget(&mut rng, &state);
-        let (words, number) = lent_words(&mut rng, &state);
-        let budget = budget_of(&budgets).expect("parts of a budget");
-
-        let mut one = run_on_words(&words, &[budget]);
-        assert_eq!(one.numbers, [number.into()]);
-        assert_eq!(one.words[STATE_WORDS..], words[STATE_WORDS..]);
-        one.numbers = vec![number.into(); budgets.len()];
-        assert_eq!(run_on_words(&words, &budgets), one);
-        cut += u32::from((1..one.steps).contains(&budgets[0].into()));
-        if number != card::TAKEN {
-            assert_eq!((one.words, one.steps, one.removed), (words, 0, 0));
-            refused += 1;
-        }
-    }
-    assert!(refused > 3_000 && cut > 3_000);
-}
-
-#[test]
-fn a_run_with_a_budget_of_0_changes_no_word() {
-    let mut rng = Xorshift::new(36);
-    for _ in 0..4_000 {
-        let state = drawn_state(&mut rng);
-        let (words, number) = lent_words(&mut rng, &state);
-        let unchanged = Leaves {
-            numbers: vec![number.into(); 2],
-            words: words.clone(),
-            steps: 0,
-            removed: 0,
-        };
-        assert_eq!(run_on_words(&words, &[0, 0]), unchanged);
-    }
-}
-
-/// The word of a stable end.
-const STABLE: u64 = 1;
-
-/// Lent words that a sheet was opened into and run on, with their number of stations, if
-/// the end is stable. Behind the state there are up to 40 more words.
-fn stable_words(rng: &mut Xorshift) -> Option<(usize, Vec<u64>)> {
-    let most = rng.pick(&[8, 8, 16, 64]);
-    let n = rng.between(2, most);
-    let sheet = written_sheet(&any_table(rng, n));
-    let limit = rng.pick(&[1, 2, 64]);
-    let length = STATE_WORDS + rng.pick(&[0, 0, 1, 40]);
-    let mut words: Vec<u64> = (0..length).map(|_| rng.word()).collect();
-    let (mut place, mut steps, mut removed) = (0, 0, 0);
-    let opened = raw::open(&sheet, limit, &mut words, &mut place);
-    let ran = raw::run(&mut words, BUDGET, &mut steps, &mut removed);
-    assert_eq!([opened, ran], [card::TAKEN.into(); 2]);
-    (words[END] == STABLE).then_some((n, words))
-}
-
-/// A call by hand answers this number, removes no leg and changes no word lent.
-fn assert_leaves(words: &[u64], number: Number, call: impl Fn(&mut [u64], &mut u32) -> u32) {
-    let (mut lent, mut removed) = (words.to_vec(), u32::MAX);
-    let answer = call(&mut lent, &mut removed);
-    assert_eq!((answer, removed), (number.into(), 0));
-    assert_eq!(lent, words);
-}
-
-#[test]
-fn calls_on_a_stable_state_change_no_word() {
-    let mut rng = Xorshift::new(37);
-    let mut stable = 0;
-    for (n, words) in (0..6_000).filter_map(|_| stable_words(&mut rng)) {
-        assert_leaves(&words, card::TAKEN, raw::sweep);
-        assert_leaves(&words, card::TAKEN, raw::chain);
-        let pass = |seed| move |lent: &mut [u64], to: &mut u32| raw::pass(lent, seed, to);
-        for seed in 1..=n {
-            assert_leaves(&words, card::TAKEN, pass(seed));
-        }
-        for seed in stray_seeds(n as u64) {
-            assert_leaves(&words, card::STRAY_SEED, pass(seed as usize));
-        }
-        let unchanged = Leaves {
-            numbers: vec![card::TAKEN.into(); 3],
-            words: words.clone(),
-            steps: 0,
-            removed: 0,
-        };
-        assert_eq!(run_on_words(&words, &[0, 1, u32::MAX]), unchanged);
-        stable += 1;
-    }
-    assert!(stable > 2_000, "{stable}");
 }
 
 const HEADER: &str = include_str!("../../../include/loungeegret.h");

@@ -168,6 +168,8 @@ fn every_budget_opens_it_anew() {
 #[test]
 fn the_petersen_graph_is_stable_without_a_round() {
     let table = petersen();
+    let sheet = include_bytes!("../../../sheets/petersen");
+    assert_eq!(open(sheet, 64).state, opened(&table));
     assert!(rounds(&table).is_empty() && drivable_legs(&table).is_empty());
     let before = opened(&table);
     let stable = WorkState {
