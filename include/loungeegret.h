@@ -125,9 +125,9 @@ uint32_t loungeegret_pass(uint64_t *state, size_t state_length, size_t seed, uin
  *
  * What stable means: after a taken opening and any calls on the same words, where the end is LOUNGEEGRET_STABLE, no sweep, chain
  * step or pass strikes anything more, with any seed. Each answers LOUNGEEGRET_TAKEN, or LOUNGEEGRET_STRAY_SEED where the seed is
- * stray, removes 0 legs and changes no word. Where place, mark and end are put back to 0, 0 and LOUNGEEGRET_OPEN, a run of n + 2 steps
- * leaves the same words (proved: stable-words); so does a run from the sheet of what is left, opened with the same limit
- * (stable-after).
+ * stray, removes 0 legs and changes no word; a run takes no step. Where place, mark and end are put back to 0, 0 and
+ * LOUNGEEGRET_OPEN, a run with a budget of n + 2 or more takes n + 2 steps, removes nothing and leaves the words as they were (proved:
+ * stable-words). So does a run from the sheet of what is left, opened with the same limit (stable-after).
  *
  * Stable does not promise a round, and legs that no round drives may be left: the Petersen graph, 10 stations and 30 legs, ends
  * stable after 12 steps with nothing removed, and has no round (no-promise). Of words that say a stable end but came from no

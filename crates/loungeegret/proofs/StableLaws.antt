@@ -28,27 +28,34 @@ use Rattle.loungeegret.specs.Stable.{anewWords, StableWords}
 use Rattle.loungeegret.proofs.SequenceLaws.{Holds, on-state, lent-holds, holds-range, holds-words, stored-holds, handed-holds, opened-hold}
 use Rattle.loungeegret.proofs.WordsLaws.{loaded-long, stored-loaded, same-words, stores-parts, loaded-parts}
 
--- a call that hands back the state leaves the words, taken or refused
-same-back : (s : List ℕ) (a : Answer) → stateWords ≤ length s → outOfRange s ≡ false → wordsBack s a (loaded s) ≡ s
-same-back s a h range = on-state s s (wordsAfter s a (loaded s)) h ∙ same-words s a h range
+-- of words that say a state which is not bad
+module _ (s : List ℕ) (h : stateWords ≤ length s) (good : bad (loaded s) ≡ false) where
+  abbrev w : Work
+  w = loaded s
 
--- the words opened anew are those of the state opened anew
-stored-anew : (s : List ℕ) → stateWords ≤ length s → outOfRange s ≡ false → anewWords s ≡ storedIn s (anew (loaded s))
-unfolding digit
-stored-anew s h range =
-    let at : Cursor = record { place = 0; mark = false; end = Open } in
-    ap (λ (x : List ℕ). anewWords x) (sym (take-append-drop 64 s)) ∙ stores-parts s (take 64 s) at h (length-take-le 64 s (omega arith))
-    ∙ ap (λ (w : Work). storedIn s (anew w)) (loaded-parts s range)
+  range : outOfRange s ≡ false
+  range = holds-range s s w (lent-holds s h) good
 
--- what a run leaves that hands back the state of the words
-anew-words : (s : List ℕ) → stateWords ≤ length s → bad (loaded s) ≡ false → (budget : ℕ) → runCall (anew (loaded s)) budget .work ≡ loaded s → wordsHanded (anewWords s) (running budget) ≡ s
-unfolding handed
-anew-words s h good budget e =
-    let w = loaded s in
-    let range = holds-range s s w (lent-holds s h) good in
-    let begun : Holds s (storedIn s (anew w)) (anew w) = stored-holds s s (anew w) refl (loaded-long s h) in
-    let ran : Holds s (wordsHanded (storedIn s (anew w)) (running budget)) w = subst (Holds s _) e (handed-holds s (storedIn s (anew w)) (anew w) begun (running budget)) in
-    ap (λ (x : List ℕ). wordsHanded x (running budget)) (stored-anew s h range) ∙ holds-words s _ w ran good ∙ stored-loaded s h range
+  -- a call that hands back the state leaves the words, taken or refused
+  same-back : (a : Answer) → wordsBack s a w ≡ s
+  same-back a = on-state s s (wordsAfter s a w) h ∙ same-words s a h range
+
+  -- opened anew they hold the state opened anew
+  anew-holds : Holds s (anewWords s) (anew w)
+  unfolding digit
+  anew-holds =
+      let at : Cursor = record { place = 0; mark = false; end = Open } in
+      let is : anewWords s ≡ storedIn s (anew w) =
+      ap (λ (x : List ℕ). anewWords x) (sym (take-append-drop 64 s)) ∙ stores-parts s (take 64 s) at h (length-take-le 64 s (omega arith))
+      ∙ ap (λ (u : Work). storedIn s (anew u)) (loaded-parts s range) in
+      subst (λ (x : List ℕ). Holds s x (anew w)) (sym is) (stored-holds s s (anew w) refl (loaded-long s h))
+
+  -- where a run from there hands back the state, it leaves the words
+  anew-words : (budget : ℕ) → runCall (anew w) budget .work ≡ w → wordsHanded (anewWords s) (running budget) ≡ s
+  unfolding handed
+  anew-words budget e =
+      let ran : Holds s (wordsHanded (anewWords s) (running budget)) w = subst (Holds s _) e (handed-holds s (anewWords s) (anew w) anew-holds (running budget)) in
+      holds-words s _ w ran good ∙ stored-loaded s h range
 
 pub stable-words : (s sheet : List ℕ) (limit : ℕ) → stateWords ≤ length s → openCall sheet limit .answer ≡ card 0 → (cs : List Call)
     → loaded (wordsAll (openedWords s sheet limit) cs) .end ≡ Stable → StableWords (wordsAll (openedWords s sheet limit) cs)
@@ -57,12 +64,12 @@ stable-words s sheet limit h t cs e =
     let x = wordsAll (openedWords s sheet limit) cs in
     let v = afterAll (openCall sheet limit .work) cs in
     let H = opened-hold s sheet limit h cs in
-    let good : bad v ≡ false = not-bad v (reached-invariant sheet limit t cs .good) in
-    let same : (a : Answer) → wordsBack x a (loaded x) ≡ x = λ a. same-back x a (H .enough) (holds-range s x v H good) in
+    let good : bad (loaded x) ≡ false = ap bad (H .is) ∙ not-bad v (reached-invariant sheet limit t cs .good) in
     let M : StableMeans (loaded x) = subst StableMeans (sym (H .is)) (stable-after sheet limit t cs (ap (λ (w : Work). w .end) (sym (H .is)) ∙ e) .means) in
     record {
       means = M;
-      hand = λ r. ap (λ (c : Called). wordsBack x (c .answer) (c .work)) (M .hand r) ∙ same _;
-      run = λ budget. ap (λ (c : Ran). wordsBack x (c .answer) (c .work)) (M .run budget) ∙ same _;
-      again = λ budget h. anew-words x (H .enough) (ap bad (H .is) ∙ good) budget (ap (λ (c : Ran). c .work) (M .again budget h));
+      hand = λ r. ap (λ (c : Called). wordsBack x (c .answer) (c .work)) (M .hand r) ∙ same-back x (H .enough) good _;
+      run = λ budget. ap (λ (c : Ran). wordsBack x (c .answer) (c .work)) (M .run budget) ∙ same-back x (H .enough) good _;
+      opened = anew-holds x (H .enough) good .is;
+      again = λ budget l. anew-words x (H .enough) good budget (ap (λ (c : Ran). c .work) (M .again budget l));
     }

@@ -7,7 +7,7 @@ use lib.Seq.{sets}
 use Rattle.bitset.specs.Sets.{digit}
 use Rattle.circuit.specs.Card.{ending, endCode}
 use Rattle.filter.specs.declared.rule.Rule.{Rule}
-use Rattle.filter.specs.Stable.{StableMeans}
+use Rattle.filter.specs.Stable.{anew, StableMeans}
 use Rattle.demands.specs.Sequence.{calling, running}
 use Rattle.loungeegret.specs.Words.{loaded}
 use Rattle.loungeegret.specs.Sequence.{wordsHanded}
@@ -23,5 +23,6 @@ pub record StableWords (s : List ℕ) : Type 0 where
   -- no sweep, chain step or pass by hand changes a word, and no run
   pub hand : (r : Rule) → wordsHanded s (calling r) ≡ s
   pub run : (budget : ℕ) → wordsHanded s (running budget) ≡ s
-  -- opened anew, a run of one cycle or more leaves the same words
+  -- opened anew they say the state opened anew, and a run of one cycle or more leaves the same words
+  pub opened : loaded (anewWords s) ≡ anew (loaded s)
   pub again : (budget : ℕ) → loaded s .n + 2 ≤ budget → wordsHanded (anewWords s) (running budget) ≡ s
