@@ -4,7 +4,7 @@ use std::cmp::Ordering;
 use std::fmt;
 
 use crate::run::Ran;
-use crate::state::{last_place, WorkState};
+use crate::state::{cycle, WorkState};
 
 /// Has the cycle of a state begun? At place 0 with the mark clear it has not.
 pub fn in_mid_cycle(state: &WorkState) -> bool {
@@ -15,7 +15,7 @@ pub fn in_mid_cycle(state: &WorkState) -> bool {
 /// stable or none. Every cycle but the last strikes a leg. One that had begun before the
 /// run need not: it may have struck its legs already.
 pub fn ceiling(state: &WorkState) -> u32 {
-    let cycle = last_place(state.n) + 1;
+    let cycle = u64::from(cycle(state.n));
     let begun = u64::from(in_mid_cycle(state));
     let steps = cycle * (state.legs() + 1 + begun);
     u32::try_from(steps).expect("a good state")

@@ -5,16 +5,11 @@ use crate::card;
 use crate::hand::Handled;
 use crate::run::Ran;
 use crate::sheet::Opened;
-use crate::state::{last_place, End, WorkState};
+use crate::state::{cycle, End, WorkState};
 use crate::written::WRITTEN_MOST;
 
 /// What is wrong with a stable state, or with a call on it.
 pub type Fault = Option<&'static str>;
-
-/// The steps of a cycle: the sweep, the chain step and a pass with each seed.
-pub fn cycle(state: &WorkState) -> u32 {
-    last_place(state.n) as u32 + 1
-}
 
 /// The same table and limit as an opening gives them.
 pub fn opened_anew(state: &WorkState) -> WorkState {
@@ -56,12 +51,12 @@ fn fault_by_stray_seed(calls: &dyn Calls, stable: &WorkState) -> Fault {
 }
 
 fn fault_by_run(calls: &dyn Calls, stable: &WorkState) -> Fault {
-    let mut budgets = [0, 1, cycle(stable), u32::MAX].into_iter();
+    let mut budgets = [0, 1, cycle(stable.n), u32::MAX].into_iter();
     budgets.find_map(|budget| fault_of_run(stable, &calls.run(*stable, budget)))
 }
 
 fn fault_by_opening_anew(calls: &dyn Calls, stable: &WorkState) -> Fault {
-    let (anew, cycle) = (opened_anew(stable), cycle(stable));
+    let (anew, cycle) = (opened_anew(stable), cycle(stable.n));
     let mut budgets = [0, 1, cycle - 1, cycle, cycle + 1, u32::MAX].into_iter();
     budgets.find_map(|budget| fault_of_run_anew(stable, budget, &calls.run(anew, budget)))
 }
@@ -119,12 +114,12 @@ pub fn fault_of_run(stable: &WorkState, ran: &Ran) -> Fault {
 /// Of a run with this budget on the stable state opened anew: it takes one cycle, or as
 /// much of it as the budget allows, and finds nothing to remove.
 pub fn fault_of_run_anew(stable: &WorkState, budget: u32, ran: &Ran) -> Fault {
-    let steps = budget.min(cycle(stable));
+    let steps = budget.min(cycle(stable.n));
     let in_the_cycle = WorkState {
         place: steps.into(),
         ..opened_anew(stable)
     };
-    let state = if steps == cycle(stable) {
+    let state = if steps == cycle(stable.n) {
         *stable
     } else {
         in_the_cycle

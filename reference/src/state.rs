@@ -107,6 +107,11 @@ pub fn last_place(n: u64) -> u64 {
     n + 1
 }
 
+/// The steps of a cycle, one for each place.
+pub fn cycle(n: u64) -> u32 {
+    last_place(n) as u32 + 1
+}
+
 pub fn bad(state: &WorkState) -> bool {
     !(FEWEST_STATIONS..=MOST_STATIONS).contains(&state.n)
         || !good_limit(state.limit)

@@ -37,6 +37,8 @@ pub record StableMeans (w : Work) : Type 0 where
   -- opened anew, a run is stable again after one cycle, in the same state
   pub again : (budget : ℕ) → w .n + 2 ≤ budget → runCall (anew w) budget ≡ oneCycle w
 
+-- ---- why, and what a library above carries along
+
 -- What every state has that calls from an opened sheet lead to. A call keeps it that leaves the state, that ends it with none, or that opens
 -- it anew with any table: there nothing is said of the rules.
 pub record CycleInvariant (w : Work) : Type 0 where

@@ -47,7 +47,7 @@ lent-holds s h = record { enough = h; is = refl; long = loaded-long s h; rest = 
 pub holds-range : (o s : List ℕ) (w : Work) → Holds o s w → bad w ≡ false → outOfRange s ≡ false
 holds-range o s w H e = is-false (outOfRange s) (λ out. not-both (out-of-range-bad s out) (ap bad (H .is) ∙ e))
 
--- and those of the state
+-- and are its words
 pub holds-words : (o s : List ℕ) (w : Work) → Holds o s w → bad w ≡ false → s ≡ storedIn o w
 unfolding storedIn
 holds-words o s w H e =

@@ -6,10 +6,10 @@ use super::call::{Answer, Call};
 use super::{Found, Session};
 use crate::hand::Handled;
 use crate::program::BUDGET;
-use crate::stable::{cycle, opened_anew, stray_seeds, Fault};
 use crate::stable::{fault_of_run, fault_of_run_anew, fault_of_sheet};
 use crate::stable::{fault_of_state, fault_of_step, fault_of_stray_seed};
-use crate::state::{End, WorkState};
+use crate::stable::{opened_anew, stray_seeds, Fault};
+use crate::state::{cycle, End, WorkState};
 use crate::written::WRITTEN_MOST;
 
 /// Stable states that came out as is said of them, and calls on them.
@@ -123,7 +123,7 @@ impl Session<'_> {
     /// A run on the state, and runs on it opened anew: through one cycle, with a larger
     /// budget, and with one step less.
     fn runs_on(&mut self, stable: &WorkState) -> Found<()> {
-        let cycle = cycle(stable);
+        let cycle = cycle(stable.n);
         let budget = self.rng.pick(&[1, cycle, BUDGET, u32::MAX]);
         let ran = self.run(budget)?;
         self.hold_to(*stable, fault_of_run(stable, &ran), &Answer::Ran(ran))?;
@@ -155,7 +155,7 @@ impl Session<'_> {
             unreachable!("an opening answers {answer}");
         };
         self.hold_to(*stable, fault_of_sheet(stable, opened), &answer)?;
-        self.run_anew(stable, cycle(stable))?;
+        self.run_anew(stable, cycle(stable.n))?;
         self.counts.stable.sheets += 1;
         Ok(())
     }

@@ -4,7 +4,7 @@ use super::Xorshift;
 use crate::ceiling::ceiling;
 use crate::fast;
 use crate::program::BUDGET;
-use crate::state::{last_place, WorkState};
+use crate::state::{cycle, WorkState};
 
 /// What decides on the budgets that matter on a state.
 #[derive(Clone, Copy, Debug)]
@@ -26,7 +26,7 @@ impl Lengths {
             };
         }
         Lengths {
-            cycle: last_place(state.n) as u32 + 1,
+            cycle: cycle(state.n),
             steps: fast::run_by::<fast::Told>(*state, u32::MAX).steps,
             ceiling: ceiling(state),
         }

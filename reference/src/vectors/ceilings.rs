@@ -7,7 +7,7 @@ use crate::gen::{band, long_runs, Record, Sheet};
 use crate::program::{BUDGET, LIMIT};
 use crate::script::Script;
 use crate::sheet::open;
-use crate::state::{last_place, WorkState, SMALLEST_LIMIT};
+use crate::state::{cycle, last_place, WorkState, SMALLEST_LIMIT};
 use crate::table::LegTable;
 
 pub fn add(script: &mut Script) {
@@ -102,7 +102,7 @@ fn no_legs(script: &mut Script) {
 fn cut_in_mid_cycle(script: &mut Script) {
     for table in long_runs() {
         let opened = WorkState::opened(&table, LIMIT);
-        let cycle = last_place(opened.n) as u32 + 1;
+        let cycle = cycle(opened.n);
         let cut = fast::run(opened, cycle + cycle / 2).state;
         if cut.mark {
             script.open(LIMIT, &Sheet::short(&table).bytes());

@@ -18,7 +18,8 @@ use crate::paper;
 use crate::program::LIMIT;
 use crate::script::Script;
 use crate::sheet::open;
-use crate::state::{last_place, End, WorkState, SMALLEST_LIMIT};
+use crate::stable::{opened_anew, stray_seeds};
+use crate::state::{cycle, End, WorkState, SMALLEST_LIMIT};
 use crate::table::LegTable;
 use crate::written::written_sheet;
 
@@ -53,29 +54,24 @@ fn tried(script: &mut Script, stable: &WorkState) {
     for budget in [0, 1, u32::MAX] {
         script.run(budget);
     }
-    opened_anew(script, stable);
+    runs_anew(script, stable);
     written_and_opened(script, stable);
 }
 
-/// With every seed and with stray ones; the last becomes 1 in fewer bits.
+/// With every seed and with stray ones.
 fn every_step(script: &mut Script, n: u64) {
     script.sweep();
     script.chain();
-    for seed in (1..=n).chain([0, n + 1, (1 << 32) + 1]) {
+    for seed in (1..=n).chain(stray_seeds(n)) {
         script.pass(seed);
     }
 }
 
-fn anew(ended: &WorkState) -> WorkState {
-    let end = End::Open;
-    WorkState { end, ..*ended }
-}
-
 /// One step before the end of the cycle, with just enough budget and with more.
-fn opened_anew(script: &mut Script, stable: &WorkState) {
-    let cycle = last_place(stable.n) as u32 + 1;
+fn runs_anew(script: &mut Script, stable: &WorkState) {
+    let cycle = cycle(stable.n);
     for budgets in [&[cycle - 1, 1][..], &[cycle], &[u32::MAX]] {
-        script.work(&anew(stable));
+        script.work(&opened_anew(stable));
         for &budget in budgets {
             script.run(budget);
         }
@@ -159,7 +155,7 @@ fn limits_that_tell(script: &mut Script) {
             limit: LIMIT,
             ..stable
         };
-        assert_ne!(fast::run(anew(&higher), u32::MAX).state, higher);
+        assert_ne!(fast::run(opened_anew(&higher), u32::MAX).state, higher);
         tried(script, &stable);
     }
     by_sheet(script, LIMIT, &rungs);

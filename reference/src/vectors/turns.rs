@@ -10,7 +10,7 @@ use crate::paper;
 use crate::program::LIMIT;
 use crate::script::Script;
 use crate::sheet::open;
-use crate::state::{last_place, End, WorkState};
+use crate::state::{cycle, last_place, End, WorkState};
 use crate::table::LegTable;
 
 pub fn add(script: &mut Script) {
@@ -133,7 +133,7 @@ fn marked_states(script: &mut Script, opened: &WorkState) {
 fn most_stations(script: &mut Script) {
     let ring = Family::RingWithChords.table(&mut Xorshift::new(1401), 64);
     let ring = at_rest(&ring);
-    let cycle = last_place(64) as u32 + 1;
+    let cycle = cycle(64);
     for (state, budget) in [(at_rest(&band(64)), 4 * cycle), (ring, steps(&ring))] {
         let rows = [cycle, 37].map(|length| turns_of(length, budget));
         group(script, &state, budget, &rows);

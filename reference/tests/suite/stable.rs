@@ -9,7 +9,8 @@ use reference::pass::pass_table;
 use reference::program::BUDGET;
 use reference::rounds::{drivable_legs, rounds};
 use reference::run::run_with;
-use reference::stable::{cycle, fault, fault_of_run_anew, fault_of_step, opened_anew};
+use reference::stable::{fault, fault_of_run_anew, fault_of_step, opened_anew};
+use reference::state::cycle;
 use reference::turns::take;
 use reference::{card, open, Calls, End, Fast, LegTable, Plain, Telling, WorkState};
 
@@ -155,7 +156,7 @@ fn every_budget_opens_it_anew() {
     for state in [nine, opened(&petersen()), opened(&LegTable::full(5))] {
         for calls in ALL {
             let stable = calls.run(state, BUDGET).state;
-            for budget in 0..=2 * cycle(&stable) {
+            for budget in 0..=2 * cycle(stable.n) {
                 let ran = calls.run(opened_anew(&stable), budget);
                 assert_eq!(fault_of_run_anew(&stable, budget, &ran), None, "{budget}");
             }

@@ -7,10 +7,10 @@ use reference::compare::{compare_sheet, watch_sheet};
 use reference::hand::{Handled, Verdict};
 use reference::run::Ran;
 use reference::sheet::Opened;
-use reference::stable::{cycle, opened_anew};
+use reference::stable::opened_anew;
 use reference::stable::{fault_of_run, fault_of_run_anew, fault_of_sheet};
 use reference::stable::{fault_of_state, fault_of_step, fault_of_stray_seed};
-use reference::state::last_place;
+use reference::state::{cycle, last_place};
 use reference::{card, open, paper, Calls, End, Fast, LegTable, WorkState};
 
 use crate::other_pass::OtherPass;
@@ -258,7 +258,7 @@ fn a_rule_that_is_too_weak_everywhere_is_not_found() {
 fn breaks_by_hand() {
     let opened = open(&paper::NINE_LEGS, 64).state;
     let stable = Fast.run(opened, u32::MAX).state;
-    let (anew, cycle) = (opened_anew(&stable), cycle(&stable));
+    let (anew, cycle) = (opened_anew(&stable), cycle(stable.n));
     assert_eq!((fault_of_state(&stable), cycle), (None, 8));
     assert!(fault_of_state(&WorkState { place: 1, ..stable }).is_some());
     let mark = true;
