@@ -1,12 +1,12 @@
 -- A call by hand, a step and a run taken apart: what holds of each outcome holds of them. Assumes nothing.
 use mathlib.Core.Path.{_≡_, refl, sym, subst}
-use mathlib.Core.Logic.{⊎-elim}
+use mathlib.Core.Logic.{_⊎_, inl, inr, ⊎-elim}
 use mathlib.Core.Bool.{true, false, cond}
 use Prim.Native.Nat.{ℕ, suc, _+_, _≤_, _<_}
 use native.Mathlib.Omega.{arith}
 use lib.Dec.{ltb}
 use borrow.Author.Tests.{lt-ltb, ltb-true, ltb-false}
-use Rattle.bitset.proofs.BoolLaws.{not-both, is-false, or-r, cond-elim}
+use Rattle.bitset.proofs.BoolLaws.{not-both, is-false, or-r, or-cases, cond-elim}
 use Rattle.bitset.proofs.QuantLaws.{below?}
 use Rattle.circuit.specs.declared.card.Answer.the-variants.{Taken, BadWork, StraySeed}
 use Rattle.circuit.specs.declared.state.Work.{Work}
@@ -58,7 +58,11 @@ module _ (w : Work) (v : Verdict) where
   gone-marks : 0 < gone w v → markAfter w v ≡ true
   gone-marks l = or-r (w .mark) (lt-ltb 0 (gone w v) l)
 
-  -- so where it is clear after a step, it was before, and no leg went
+  -- nothing else sets it
+  pub mark-set : markAfter w v ≡ true → (w .mark ≡ true) ⊎ (0 < gone w v)
+  mark-set e = ⊎-elim inl (λ l. inr (ltb-true 0 (gone w v) l)) (or-cases (w .mark) (ltb 0 (gone w v)) e)
+
+  -- where it is clear after a step, it was before, and no leg went
   pub mark-clear : markAfter w v ≡ false → (w .mark ≡ false) × (gone w v ≡ 0)
   mark-clear e = (
     is-false (w .mark) (λ m. not-both (mark-stays m) e),

@@ -1,11 +1,10 @@
 -- Runs end within the ceiling: what is due falls with each step (W-206). Assumes nothing.
 use mathlib.Core.Path.{_≡_, refl, sym, ap, _∙_}
 use mathlib.Core.Logic.{⊎-elim}
-use mathlib.Core.Bool.{Bool, true, false, _||_}
+use mathlib.Core.Bool.{Bool, true, false}
 use Prim.Native.Nat.{ℕ, zero, suc, _+_, _-_, _*_, _≤_, _<_}
 use native.Mathlib.Nat.{mul-le-mul, mul-le-mul-left, mul-suc, le-trans, le-dest}
 use native.Mathlib.Omega.{arith}
-use lib.Dec.{ltb}
 use Rattle.bitset.specs.Sets.{digit}
 use Rattle.bitset.proofs.BoolLaws.{clash, cases}
 use Rattle.bitset.proofs.QuantLaws.{below?}
@@ -18,9 +17,9 @@ use Rattle.circuit.specs.State.{isOpen, rowsOf, lastPlace, Good}
 use Rattle.circuit.proofs.StateLaws.{not-bad, good-legs}
 use Rattle.filter.specs.declared.cycle.Ran.{Ran}
 use Rattle.filter.specs.Rule.{ruleAt}
-use Rattle.filter.specs.Calls.{verdict, gone, markAfter, cycled, after, step, runFrom, runCall}
+use Rattle.filter.specs.Calls.{verdict, markAfter, cycled, after, step, runFrom, runCall}
 use Rattle.filter.specs.Ends.{Ended, ceiling, fullBudget, EndsWithin}
-use Rattle.filter.proofs.AfterLaws.{after-cases, left-le}
+use Rattle.filter.proofs.AfterLaws.{mark-set, after-cases, left-le}
 use Rattle.filter.proofs.CallLaws.{place-sound, step-leads}
 use Rattle.filter.proofs.RunLaws.{run-open, run-shut, run-steps, run-same, shut-ended, run-good}
 
@@ -37,13 +36,6 @@ standing w = legs (w .n) (rowsOf w)
 due : Work → ℕ
 due w = (places w - w .place) + places w * (standing w + digit (w .mark))
 
--- a leg that goes pays for the mark
-pays : (m : Bool) (g l k : ℕ) → g + l ≡ k → l + digit (m || ltb 0 g) ≤ k + digit m
-unfolding digit
-pays true g l k e = omega arith
-pays false zero l k e = omega arith
-pays false (suc g) l k e = omega (arith, digit-lt (ltb 0 (suc g)))
-
 -- below the last place; and at it, where the mark is given up
 rest-falls : (last place x y : ℕ) → x ≤ y → place < last → (suc last - suc place) + suc last * x < (suc last - place) + suc last * y
 rest-falls last place x y h l = omega (arith, mul-le-mul-left (suc last) h)
@@ -59,8 +51,11 @@ after-less w v p sub =
     Less : Work → Type 0
     Less u = isOpen (u .end) ≡ true → due u < due w
 
+    -- a leg that goes pays for the mark
     paid : (m : Bool) → markAfter w v ≡ m → legs (w .n) (v .left) + digit m ≤ standing w + digit (w .mark)
-    paid m e = rw (sym e) (pays (w .mark) (gone w v) (legs (w .n) (v .left)) (standing w) (left-le w v sub))
+    paid true e =
+        ⊎-elim (λ s. let set : digit (w .mark) ≡ 1 = ap digit s in omega (arith, set, left-le w v sub)) (λ l. omega (arith, l, left-le w v sub)) (mark-set w v e)
+    paid false e = omega (arith, left-le w v sub)
 
     cycles : (m : Bool) → markAfter w v ≡ m → Less (cycled w v m)
     cycles true e o = cycle-falls (lastPlace (w .n)) (w .place) (legs (w .n) (v .left) + 0) _ (omega (arith, paid true e)) p
