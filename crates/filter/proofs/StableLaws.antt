@@ -23,12 +23,14 @@ use Rattle.filter.specs.declared.hand.Called.{Called}
 use Rattle.filter.specs.declared.cycle.Ran.{Ran}
 use Rattle.filter.specs.Rule.{straySeed, ruleAt}
 use Rattle.filter.specs.Calls.{verdict, gone, halted, unchanged, byHand, handCall, markAfter, advanced, cycled, after, step, onward, runFrom, runCall}
+use Rattle.filter.specs.Ends.{fullBudget}
 use Rattle.filter.specs.Stable.{Leaves, Fixpoint, anew, oneCycle, StableMeans, CycleInvariant}
 use Rattle.filter.proofs.AfterLaws.{byHand-cases, handCall-cases, mark-clear, after-cases, runFrom-cases, runCall-cases}
 use Rattle.filter.proofs.CallLaws.{open-none, place-sound}
 use Rattle.filter.proofs.RemovalLaws.{left-same}
 use Rattle.filter.proofs.RuleLaws.{says-sound, place-fits, rule-placed}
 use Rattle.filter.proofs.RunLaws.{open-is, run-open, run-shut, run-good}
+use Rattle.filter.proofs.CeilingLaws.{run-enough}
 
 open-stable : {A : Type 0} → Open ≡ Stable → A
 open-stable e = clash (ap isOpen e)
@@ -205,3 +207,10 @@ stable-means w I e =
       run = λ budget. run-good w budget (not-bad w (I .good)) ∙ run-shut budget w (ap isOpen e);
       again = λ budget h. fixpoint-again w (I .good) F budget h ∙ ap oneCycle is;
     }
+
+-- a run with the full budget that does not end none ends stable, at a fixpoint
+pub run-fixpoint : (w : Work) (budget : ℕ) → CycleInvariant w → fullBudget ≤ budget → isNone (runCall w budget .work .end) ≡ false
+    → (runCall w budget .work .end ≡ Stable) × Fixpoint (runCall w budget .work)
+run-fixpoint w budget I enough going =
+    let s = ⊎-elim (λ e. e) (λ e. absurd (not-both (ap isNone e) going)) (run-enough w (I .good) budget enough) in
+    (s, run-invariant w budget I .stable s)

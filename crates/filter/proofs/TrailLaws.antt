@@ -17,38 +17,30 @@ use Rattle.bitset.proofs.FirstLaws.{first-at, before-first}
 use Rattle.bitset.proofs.HasLaws.{has-zero}
 use Rattle.bitset.proofs.OnesLaws.{count-le, size-one}
 use Rattle.bitset.proofs.QuantLaws.{any-intro, any-elim, any-false}
-use Rattle.bitset.proofs.SetLaws.{setOf-lt, has-setOf, none-zero, no-member, has-self, has-one, pow-only}
+use Rattle.bitset.proofs.SetLaws.{setOf-lt, has-setOf, none-zero, no-member, has-self}
 use Rattle.circuit.specs.Legs.{leg, col, columns, without}
 use Rattle.circuit.specs.State.{stray}
 use Rattle.circuit.specs.Verdict.{saysNone, leaves}
-use Rattle.circuit.proofs.LegsLaws.{tableOf-leg, leg-tableOf, column-at}
+use Rattle.circuit.proofs.LegsLaws.{tableOf-leg, leg-tableOf, column-leg}
 use Rattle.circuit.proofs.StateLaws.{stray-row, without-none}
 use Rattle.filter.specs.Chain.{compulsory, compulsories, forked, nexts, along, joined, looped, closes, chain}
 use Rattle.filter.specs.Trail.{Compulsory, Splits, Fork, Trail, Different, Loop, Closing, ChainSays}
+use Rattle.filter.proofs.OnlyLaws.{row-only, column-only, only-row, only-column}
 use Rattle.filter.proofs.NextLaws.{joined-intro, joined-elim, next-leg, same-next, same-previous, leg-next}
 
 -- ---- compulsory legs
 
 module _ (n : ℕ) (t : List ℕ) (le : n ≤ 64) where
-  col-leg : (i j : ℕ) → i < n → has (col n t j) i ≡ leg t i j
-  unfolding col
-  col-leg i j l = has-setOf n (λ i. leg t i j) i l
-
   compulsory-out : (i j : ℕ) → i < n → j < n → eqb (row t i) (2 ^ j) ≡ true → Compulsory n t i j
   unfolding leg
   compulsory-out i j li lj e =
-      let is = eqb-true (row t i) (2 ^ j) e in
-      record { from = li; to = lj; stands = ap (λ (w : ℕ). has w j) is ∙ has-self j; only = inl (λ k l q. has-one j k (ap (λ (w : ℕ). has w k) (sym is) ∙ q)) }
+      let is = eqb-true (row t i) (2 ^ j) e in record { from = li; to = lj; stands = ap (λ (w : ℕ). has w j) is ∙ has-self j; only = inl (row-only n t i j is) }
 
   compulsory-in : (i j : ℕ) → i < n → j < n → eqb (row (columns n t) j) (2 ^ i) ≡ true → Compulsory n t i j
+  unfolding leg
   compulsory-in i j li lj e =
-      let is = sym (column-at n t le j lj) ∙ eqb-true (row (columns n t) j) (2 ^ i) e in
-      record {
-        from = li;
-        to = lj;
-        stands = sym (col-leg i j li) ∙ ap (λ (w : ℕ). has w i) is ∙ has-self i;
-        only = inr (λ k l q. has-one i k (ap (λ (w : ℕ). has w k) (sym is) ∙ col-leg k j l ∙ q));
-      }
+      let is = eqb-true (row (columns n t) j) (2 ^ i) e in
+      record { from = li; to = lj; stands = sym (column-leg n t le i j li lj) ∙ ap (λ (w : ℕ). has w i) is ∙ has-self i; only = inr (column-only n t le i j lj is) }
 
   pub compulsory-holds : (i j : ℕ) → leg (compulsories n t) i j ≡ true → Compulsory n t i j
   unfolding compulsories compulsory
@@ -57,16 +49,10 @@ module _ (n : ℕ) (t : List ℕ) (le : n ≤ 64) where
       ⊎-elim (compulsory-out i j (f .0) (f .1)) (compulsory-in i j (f .0) (f .1)) (or-cases _ _ (f .2))
 
   compulsory-found : stray n t ≡ false → (i j : ℕ) → Compulsory n t i j → compulsory t (columns n t) i j ≡ true
-  unfolding compulsory leg col
+  unfolding compulsory
   compulsory-found clean i j c =
-      ⊎-elim
-      (λ only. or-l (eqb (row (columns n t) j) (2 ^ i)) (eq-eqb (row t i) (2 ^ j) (pow-only n (row t i) j (stray-row n t le clean i (c .from)) (c .to) (c .stands) only)))
-      (λ only.
-      or-r (eqb (row t i) (2 ^ j))
-      (eq-eqb (row (columns n t) j) (2 ^ i)
-      (column-at n t le j (c .to)
-      ∙ pow-only n (col n t j) i (setOf-lt n (λ i. leg t i j)) (c .from) (col-leg i j (c .from) ∙ c .stands) (λ k l q. only k l (sym (col-leg k j l) ∙ q)))))
-      (c .only)
+      ⊎-elim (λ only. or-l (eqb (row (columns n t) j) (2 ^ i)) (eq-eqb (row t i) (2 ^ j) (only-row n t i j (stray-row n t le clean i (c .from)) (c .to) (c .stands) only)))
+      (λ only. or-r (eqb (row t i) (2 ^ j)) (eq-eqb (row (columns n t) j) (2 ^ i) (only-column n t le i j (c .to) (c .from) (c .stands) only))) (c .only)
 
   pub compulsory-test : stray n t ≡ false → (i j : ℕ) → Decides (leg (compulsories n t) i j) (Compulsory n t i j)
   unfolding compulsories
