@@ -1,0 +1,3 @@
+-- What functions promise each other.
+pub mod Nodes
+pub mod Parts
