@@ -2,6 +2,7 @@
 
 use crate::fast::{Idle, Told, Untold};
 use crate::filled::Filled;
+use crate::finder::{self, Sought};
 use crate::hand::Handled;
 use crate::list::Checked;
 use crate::run::Ran;
@@ -16,6 +17,7 @@ pub trait Calls {
     fn pass(&self, state: WorkState, seed: u64) -> Handled;
     fn run(&self, state: WorkState, budget: u32) -> Ran;
     fn list_check(&self, state: &WorkState, numbers: &[u8]) -> Checked;
+    fn first_round(&self, state: &WorkState, budget: u32, list: &mut [u8]) -> Sought;
     fn report(&self, state: &WorkState, buffer: &mut [u8]) -> Filled;
     fn write(&self, state: &WorkState, buffer: &mut [u8]) -> Filled;
     fn print(&self, sheet: &[u8], buffer: &mut [u8]) -> Filled;
@@ -69,6 +71,10 @@ impl Calls for Plain {
         list::list_check(state, numbers)
     }
 
+    fn first_round(&self, state: &WorkState, budget: u32, list: &mut [u8]) -> Sought {
+        finder::first_round(state, budget, list)
+    }
+
     fn report(&self, state: &WorkState, buffer: &mut [u8]) -> Filled {
         lines::report(state, buffer)
     }
@@ -109,6 +115,10 @@ impl<C: ByWords> Calls for C {
 
     fn list_check(&self, state: &WorkState, numbers: &[u8]) -> Checked {
         fast::list_check(state, numbers)
+    }
+
+    fn first_round(&self, state: &WorkState, budget: u32, list: &mut [u8]) -> Sought {
+        finder::first_round_by(self, state, budget, list)
     }
 
     fn report(&self, state: &WorkState, buffer: &mut [u8]) -> Filled {

@@ -14,6 +14,7 @@ pub mod choices;
 pub mod compare;
 pub mod fast;
 pub mod filled;
+pub mod finder;
 pub mod gen;
 pub mod graph;
 pub mod hand;
@@ -40,6 +41,7 @@ pub mod written;
 pub use calls::{Calls, Fast, Plain, Telling};
 pub use chain::chain;
 pub use filled::Filled;
+pub use finder::{first_round, Outcome, Sought};
 pub use hand::Handled;
 #[cfg(feature = "library")]
 pub use library::Library;

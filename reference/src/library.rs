@@ -3,6 +3,7 @@
 use crate::calls::Calls;
 use crate::card::{self, Number};
 use crate::filled::Filled;
+use crate::finder::{Outcome, Sought};
 use crate::hand::Handled;
 use crate::list::Checked;
 use crate::run::Ran;
@@ -49,6 +50,15 @@ mod ffi {
             list: *const u8,
             list_len: usize,
             yes: *mut u8,
+        ) -> u32;
+        pub fn loungeegret_first_round(
+            state: *const u64,
+            state_len: usize,
+            budget: u32,
+            list: *mut u8,
+            list_len: usize,
+            outcome: *mut u32,
+            nodes: *mut u32,
         ) -> u32;
         pub fn loungeegret_report(
             state: *const u64,
@@ -108,6 +118,20 @@ pub mod raw {
     pub fn check_list(state: &[u64], list: &[u8], yes: &mut u8) -> u32 {
         let (words, numbers) = (state.as_ptr(), list.as_ptr());
         unsafe { ffi::loungeegret_check_list(words, state.len(), numbers, list.len(), yes) }
+    }
+
+    pub fn first_round(
+        state: &[u64],
+        budget: u32,
+        list: &mut [u8],
+        outcome: &mut u32,
+        nodes: &mut u32,
+    ) -> u32 {
+        let (words, length) = (state.as_ptr(), state.len());
+        let (numbers, count) = (list.as_mut_ptr(), list.len());
+        unsafe {
+            ffi::loungeegret_first_round(words, length, budget, numbers, count, outcome, nodes)
+        }
     }
 
     pub fn report(state: &[u64], buffer: &mut [u8], length: &mut usize) -> u32 {
@@ -193,6 +217,18 @@ impl Calls for Library {
         }
     }
 
+    fn first_round(&self, state: &WorkState, budget: u32, list: &mut [u8]) -> Sought {
+        let words = to_words(state);
+        let (mut code, mut nodes) = (u32::MAX, u32::MAX);
+        let answer = raw::first_round(&words, budget, list, &mut code, &mut nodes);
+        assert_eq!(words, to_words(state), "a search changes no state");
+        Sought {
+            number: number(answer),
+            outcome: outcome(code),
+            nodes,
+        }
+    }
+
     fn report(&self, state: &WorkState, buffer: &mut [u8]) -> Filled {
         filled(|length| raw::report(&to_words(state), buffer, length))
     }
@@ -242,6 +278,12 @@ fn number(answer: u32) -> Number {
 
 fn handed_back(words: &Words) -> WorkState {
     from_words(words).expect("a mark of 0 or 1 and an end of 0 to 2")
+}
+
+fn outcome(code: u32) -> Outcome {
+    let mut outcomes = Outcome::ALL.into_iter();
+    let found = outcomes.find(|outcome| outcome.code() == code);
+    found.expect("an outcome of 0 to 3")
 }
 
 fn truth(yes: u8) -> bool {

@@ -12,7 +12,7 @@ use reference::run::Ran;
 use reference::script::play;
 use reference::sheet::Opened;
 use reference::state::last_place;
-use reference::{program, vectors, Calls, End, Fast, Filled, LegTable, Plain, WorkState};
+use reference::{program, vectors, Calls, End, Fast, Filled, LegTable, Plain, Sought, WorkState};
 
 use crate::opened;
 use crate::scripts::answers;
@@ -126,6 +126,10 @@ impl Calls for Faulty {
 
     fn list_check(&self, state: &WorkState, numbers: &[u8]) -> Checked {
         Fast.list_check(state, numbers)
+    }
+
+    fn first_round(&self, state: &WorkState, budget: u32, list: &mut [u8]) -> Sought {
+        Fast.first_round(state, budget, list)
     }
 
     fn report(&self, state: &WorkState, buffer: &mut [u8]) -> Filled {

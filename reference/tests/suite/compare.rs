@@ -15,7 +15,8 @@ use reference::run::Ran;
 use reference::sheet::Opened;
 use reference::state::last_place;
 use reference::written::written_sheet;
-use reference::{card, open, program, Calls, End, Fast, Filled, LegTable, Telling, WorkState};
+use reference::{card, open, program, Calls, End, Fast, Filled};
+use reference::{LegTable, Sought, Telling, WorkState};
 
 /// Compares calls on sheets, which must show no difference.
 fn compared(tested: &dyn Calls, seed: u64, sheets: u64) -> Counts {
@@ -396,6 +397,10 @@ impl Calls for Faulty {
             checked.yes = state.rows.iter().zip(numbers).all(stands);
         }
         checked
+    }
+
+    fn first_round(&self, state: &WorkState, budget: u32, list: &mut [u8]) -> Sought {
+        Fast.first_round(state, budget, list)
     }
 
     fn report(&self, state: &WorkState, buffer: &mut [u8]) -> Filled {

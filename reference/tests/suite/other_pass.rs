@@ -4,7 +4,7 @@ use reference::hand::{self, Handled, Verdict};
 use reference::list::Checked;
 use reference::run::{run_with, Ran};
 use reference::sheet::Opened;
-use reference::{Calls, Fast, Filled, LegTable, WorkState};
+use reference::{Calls, Fast, Filled, LegTable, Sought, WorkState};
 
 /// Makes the pass of a run or of a call by hand. It is used on few stations: above, it
 /// would take long.
@@ -49,6 +49,10 @@ where
 
     fn list_check(&self, state: &WorkState, numbers: &[u8]) -> Checked {
         Fast.list_check(state, numbers)
+    }
+
+    fn first_round(&self, state: &WorkState, budget: u32, list: &mut [u8]) -> Sought {
+        Fast.first_round(state, budget, list)
     }
 
     fn report(&self, state: &WorkState, buffer: &mut [u8]) -> Filled {

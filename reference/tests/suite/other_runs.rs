@@ -5,7 +5,7 @@ use reference::hand::Handled;
 use reference::list::Checked;
 use reference::run::Ran;
 use reference::sheet::Opened;
-use reference::{Calls, Fast, Filled, WorkState};
+use reference::{Calls, Fast, Filled, Sought, WorkState};
 
 /// Makes a run of the state and the budget, and hands on what a step by hand on the
 /// state has answered.
@@ -51,6 +51,10 @@ where
 
     fn list_check(&self, state: &WorkState, numbers: &[u8]) -> Checked {
         Fast.list_check(state, numbers)
+    }
+
+    fn first_round(&self, state: &WorkState, budget: u32, list: &mut [u8]) -> Sought {
+        Fast.first_round(state, budget, list)
     }
 
     fn report(&self, state: &WorkState, buffer: &mut [u8]) -> Filled {
