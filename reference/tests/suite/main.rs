@@ -8,6 +8,7 @@ mod chains;
 mod choices;
 mod compare;
 mod fast;
+mod finder;
 mod idle;
 mod islands;
 mod neighbours;
