@@ -6,6 +6,7 @@ pub mod ceilings;
 mod counts;
 mod difference;
 mod draw;
+pub mod finder;
 mod islands;
 mod made;
 pub mod neighbours;
@@ -16,6 +17,7 @@ mod watch;
 mod written;
 
 use std::fmt::Display;
+use std::mem;
 use std::panic::{catch_unwind, AssertUnwindSafe};
 
 use self::call::{Answer, Call};
@@ -77,6 +79,7 @@ fn go_through(tested: &dyn Calls, seed: u64, index: u64, judge: Judge) -> Found<
     if taken {
         session.sequence()?;
         session.state_of_no_opening()?;
+        session.searches_of_no_sheet()?;
     } else {
         session.each_call()?;
     }
@@ -165,8 +168,9 @@ impl Session<'_> {
     /// on some tables passes and other runs too, then calls in any order, the whole run, and
     /// more calls on the ended state: runs in turns, some of any kind, then reports and
     /// writes into buffers of every length that matters. Each stable state is held to what
-    /// is said of it.
+    /// is said of it. Searches come last, on the states at the start, amid and at the end.
     fn sequence(&mut self) -> Found<()> {
+        let opened = self.state;
         self.writes()?;
         self.ceilings_and_back()?;
         self.turns_from_the_start()?;
@@ -184,6 +188,7 @@ impl Session<'_> {
                 _ => self.any_call()?,
             }
         }
+        let amid = self.state;
         let budget = u32::MAX;
         self.call(Call::Run { budget })?;
         self.hold_stable()?;
@@ -194,7 +199,8 @@ impl Session<'_> {
         for length in draw::report_lengths(&self.state) {
             self.call(Call::Report { length })?;
         }
-        self.writes()
+        self.writes()?;
+        self.searches_and_back(&opened, [amid, self.state])
     }
 
     /// A chain step that the following calls don't see.
@@ -303,6 +309,16 @@ impl Session<'_> {
         self.state = state;
     }
 
+    /// Calls with draws of their own: the other calls of a sequence are the same without
+    /// them.
+    fn apart(&mut self, calls: impl FnOnce(&mut Self) -> Found<()>) -> Found<()> {
+        let own = self.rng.apart();
+        let kept = mem::replace(&mut self.rng, own);
+        calls(self)?;
+        self.rng = kept;
+        Ok(())
+    }
+
     /// Makes a call and goes on from the state it hands back.
     fn call(&mut self, call: Call) -> Found<Answer> {
         let with_plain = self.plain_takes_part(&call);
@@ -358,6 +374,8 @@ impl Session<'_> {
     fn plain_takes_part(&mut self, call: &Call) -> bool {
         let chance = match (call, self.state.n) {
             (Call::Open { .. } | Call::OpenWritten { .. } | Call::Write { .. }, _) => 100,
+            (Call::FirstRound { .. }, 0..=8) => 5,
+            (Call::FirstRound { .. }, _) => 0,
             (_, 0..=12) => 100,
             (_, 13..=24) if self.on_stable => 5,
             (_, 25..=64) if self.on_stable => 1,

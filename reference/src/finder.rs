@@ -4,6 +4,8 @@
 //! A node is a work state as an opening gives it, with the stations up to some number
 //! decided: each of them has one leg left. It is run before anything is read from it.
 
+pub mod laws;
+
 use crate::calls::{Calls, Plain};
 use crate::card::{self, Number};
 use crate::program::BUDGET;
@@ -81,28 +83,28 @@ pub fn first_round_by(
             nodes: 0,
         };
     }
-    let mut search = Search {
+    let mut descent = Descent {
         calls,
         budget,
         nodes: 0,
         list,
     };
-    let outcome = search.enter(opened_anew(state), 0);
+    let outcome = descent.enter(opened_anew(state), 0);
     Sought {
         number,
         outcome,
-        nodes: search.nodes,
+        nodes: descent.nodes,
     }
 }
 
-struct Search<'a> {
+struct Descent<'a> {
     calls: &'a dyn Calls,
     budget: u32,
     nodes: u32,
     list: &'a mut [u8],
 }
 
-impl Search<'_> {
+impl Descent<'_> {
     /// Searches a node, whose stations up to `decided` are decided, and all below it.
     fn enter(&mut self, node: WorkState, decided: usize) -> Outcome {
         if self.nodes == self.budget {

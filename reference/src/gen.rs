@@ -6,6 +6,7 @@ mod long_runs;
 mod shapes;
 mod splits;
 mod states;
+mod two_sides;
 mod valleys;
 
 use std::ops::RangeInclusive;
@@ -18,6 +19,7 @@ pub use self::long_runs::long_runs;
 pub use self::shapes::{band, Shape, Ways, SHAPES};
 pub use self::splits::{cut_at, split_budget};
 pub use self::states::any_state;
+pub use self::two_sides::two_sides;
 pub use self::valleys::{long_dead_end, long_valley, no_way_left, one_way_valleys};
 pub use self::valleys::{road_with_gap, through_one_station, way_outside, way_struck_before};
 

@@ -3,8 +3,8 @@
 //! `compare [--seed S] [--sheets COUNT]` goes through that many made-up sheets,
 //! `compare --seed S --sheet K` through a single one of them again. A difference
 //! ends it with status 1, and so does, after many sheets, a count of neighbours, of
-//! written sheets, of ceilings, of turns or of stable states that is still 0, or too few
-//! tables of valleys.
+//! written sheets, of ceilings, of turns, of stable states or of searches that is still 0,
+//! or too few tables of valleys.
 
 use std::process::ExitCode;
 use std::str::FromStr;
@@ -12,6 +12,7 @@ use std::sync::atomic::{AtomicU64, Ordering};
 use std::thread;
 use std::time::Instant;
 
+use reference::compare::finder::SearchCounts;
 use reference::compare::{compare_sheet, Counts, Difference};
 use reference::Library;
 
@@ -173,6 +174,18 @@ fn tell(seed: u64, sheets: u64, counts: &Counts) {
     println!(
         "  stable states: {} reached, {} of them after legs removed by hand; {} steps by hand left them as they were, {} stray seeds were refused, {} runs on them opened anew came back in one cycle, {} of them by their sheet; {} made-up ones changed",
         stable.states, stable.after_hand, stable.steps, stable.stray, stable.anew, stable.sheets, stable.made_up
+    );
+    tell_searches(&counts.searches);
+}
+
+fn tell_searches(searches: &SearchCounts) {
+    println!(
+        "  searches: {} found a round, {} of them after a node without one; {} found none, {} of them by several nodes; {} budgets were used up, {} searches ended with just theirs and {} with the largest, {} on more than 8 stations",
+        searches.found, searches.found_late, searches.no_round, searches.no_round_late, searches.used_up, searches.just, searches.largest, searches.wide
+    );
+    println!(
+        "  searches that found the same: {} with another place, mark or end, {} with another limit and count, {} after calls that removed legs; refused: {} bad states, {} wrong lengths",
+        searches.moved, searches.limits, searches.after_calls, searches.bad_states, searches.wrong_lengths
     );
 }
 

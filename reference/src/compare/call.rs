@@ -5,6 +5,7 @@ use std::fmt;
 use crate::calls::Calls;
 use crate::card::Number;
 use crate::filled::{fill, Filled};
+use crate::finder::Sought;
 use crate::hand::Handled;
 use crate::list::Checked;
 use crate::run::Ran;
@@ -20,6 +21,7 @@ pub enum Call {
     Pass { seed: u64 },
     Run { budget: u32 },
     List { numbers: Vec<u8> },
+    FirstRound { budget: u32, length: usize },
     Report { length: usize },
     Write { length: usize },
     Print { length: usize },
@@ -32,6 +34,7 @@ pub enum Answer {
     Handled(Handled),
     Ran(Ran),
     Checked(Checked),
+    Sought(Sought, Vec<u8>),
     Filled(Filled, Vec<u8>),
 }
 
@@ -46,6 +49,11 @@ impl Call {
             Call::Pass { seed } => Answer::Handled(calls.pass(*state, *seed)),
             Call::Run { budget } => Answer::Ran(calls.run(*state, *budget)),
             Call::List { numbers } => Answer::Checked(calls.list_check(state, numbers)),
+            Call::FirstRound { budget, length } => {
+                let mut list = lent_buffer(*length);
+                let sought = calls.first_round(state, *budget, &mut list);
+                Answer::Sought(sought, list)
+            }
             Call::Report { length } => {
                 Answer::filled(*length, |buffer| calls.report(state, buffer))
             }
@@ -55,8 +63,8 @@ impl Call {
     }
 }
 
-/// Bytes that differ from their neighbours and stand in no text.
-fn lent_buffer(length: usize) -> Vec<u8> {
+/// Bytes that differ from their neighbours and stand in no text and no list.
+pub fn lent_buffer(length: usize) -> Vec<u8> {
     (0..length).map(|at| 128 + (at % 127) as u8).collect()
 }
 
@@ -86,6 +94,7 @@ impl Answer {
             Answer::Handled(handled) => handled.number,
             Answer::Ran(ran) => ran.number,
             Answer::Checked(checked) => checked.number,
+            Answer::Sought(sought, _) => sought.number,
             Answer::Filled(filled, _) => filled.number,
         }
     }
@@ -96,7 +105,7 @@ impl Answer {
             Answer::Opened(opened) => Some(&opened.state),
             Answer::Handled(handled) => Some(&handled.state),
             Answer::Ran(ran) => Some(&ran.state),
-            Answer::Checked(_) | Answer::Filled(..) => None,
+            Answer::Checked(_) | Answer::Sought(..) | Answer::Filled(..) => None,
         }
     }
 }
@@ -113,6 +122,9 @@ impl fmt::Display for Call {
             Call::Pass { seed } => write!(out, "pass with seed {seed}"),
             Call::Run { budget } => write!(out, "run with budget {budget}"),
             Call::List { numbers } => write!(out, "list check of {numbers:?}"),
+            Call::FirstRound { budget, length } => {
+                write!(out, "first round by {budget} nodes into {length} bytes")
+            }
             Call::Report { length } => write!(out, "report into {length} bytes"),
             Call::Write { length } => write!(out, "write into {length} bytes"),
             Call::Print { length } => write!(out, "print into {length} bytes"),
@@ -128,6 +140,10 @@ impl fmt::Display for Answer {
             Answer::Handled(handled) => write!(out, " removed {}", handled.removed)?,
             Answer::Ran(ran) => write!(out, " steps {} removed {}", ran.steps, ran.removed)?,
             Answer::Checked(checked) => write!(out, " yes {}", checked.yes)?,
+            Answer::Sought(sought, list) => {
+                let (outcome, nodes) = (sought.outcome.word(), sought.nodes);
+                write!(out, " {outcome} nodes {nodes} list {list:?}")?;
+            }
             Answer::Filled(filled, buffer) => {
                 let (length, bytes) = (filled.length, buffer.escape_ascii());
                 write!(out, " length {length} buffer \"{bytes}\"")?;

@@ -2,6 +2,7 @@
 
 use super::call::Answer;
 use super::ceilings::CeilingCounts;
+use super::finder::SearchCounts;
 use super::islands::IslandCounts;
 use super::neighbours::NeighbourCounts;
 use super::stable::StableCounts;
@@ -33,6 +34,7 @@ pub struct Counts {
     pub ceilings: CeilingCounts,
     pub turns: TurnCounts,
     pub stable: StableCounts,
+    pub searches: SearchCounts,
 }
 
 /// Chain steps by hand that were not refused, by what they did.
@@ -87,6 +89,7 @@ impl Counts {
         self.ceilings.add(&other.ceilings);
         self.turns.add(&other.turns);
         self.stable.add(&other.stable);
+        self.searches.add(&other.searches);
     }
 
     /// What is still missing of the calls that so many sheets have.
@@ -103,6 +106,8 @@ impl Counts {
             Some("turns")
         } else if !self.stable.complete() {
             Some("stable states")
+        } else if !self.searches.complete() {
+            Some("searches")
         } else {
             None
         }
@@ -121,7 +126,7 @@ impl Counts {
                 }
             }
             Answer::Checked(checked) => self.rounds_confirmed += u64::from(checked.yes),
-            Answer::Opened(_) | Answer::Filled(..) => {}
+            Answer::Opened(_) | Answer::Sought(..) | Answer::Filled(..) => {}
         }
     }
 }

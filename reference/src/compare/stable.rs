@@ -1,7 +1,5 @@
 //! Stable states get every step by hand again, and are opened anew.
 
-use std::mem;
-
 use super::call::{Answer, Call};
 use super::{Found, Session};
 use crate::hand::Handled;
@@ -83,7 +81,7 @@ impl Session<'_> {
         if let Some(reason) = fault_of_state(&stable) {
             return Err(self.difference(reason, &stable));
         }
-        self.apart(|session| {
+        self.on_stable(|session| {
             session.steps_on(&stable)?;
             session.runs_on(&stable)?;
             session.sheet_of(&stable)
@@ -161,7 +159,7 @@ impl Session<'_> {
     }
 
     /// A difference tells the answers of others to the last call, on its state.
-    fn hold_to(&mut self, before: WorkState, fault: Fault, answer: &Answer) -> Found<()> {
+    pub fn hold_to(&mut self, before: WorkState, fault: Fault, answer: &Answer) -> Found<()> {
         let Some(reason) = fault else {
             return Ok(());
         };
@@ -177,7 +175,7 @@ impl Session<'_> {
         let end = End::Stable;
         let made_up = WorkState { end, ..kept };
         self.put(made_up);
-        self.apart(|session| {
+        self.on_stable(|session| {
             let mut calls = steps_by_hand(kept.n);
             while let (Some(call), true) = (calls.next(), session.state == made_up) {
                 session.call(call)?;
@@ -189,15 +187,11 @@ impl Session<'_> {
         Ok(())
     }
 
-    /// Calls with draws of their own: the other calls of a sequence are the same without
-    /// them.
-    fn apart(&mut self, calls: impl FnOnce(&mut Self) -> Found<()>) -> Found<()> {
-        let own = self.rng.apart();
-        let kept = mem::replace(&mut self.rng, own);
+    /// Calls with draws and counts of their own.
+    fn on_stable(&mut self, calls: impl FnOnce(&mut Self) -> Found<()>) -> Found<()> {
         self.on_stable = true;
-        calls(self)?;
+        self.apart(calls)?;
         self.on_stable = false;
-        self.rng = kept;
         Ok(())
     }
 }

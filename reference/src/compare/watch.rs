@@ -5,7 +5,7 @@ use crate::rounds::rounds;
 use crate::state::{End, Rows, WorkState};
 
 /// Tables of more stations have too many rounds to try.
-const MOST_STATIONS: u64 = 8;
+pub const MOST_STATIONS: u64 = 8;
 
 pub struct Watch {
     /// Every round of the opened table where it is small, else the known one.

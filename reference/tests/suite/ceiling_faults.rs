@@ -5,6 +5,7 @@ use std::io::{self, Write};
 
 use reference::ceiling::ceiling;
 use reference::compare::{ceilings, compare_sheet, watch_sheet};
+use reference::finder::first_round_by;
 use reference::gen::{all_tables, Xorshift};
 use reference::hand::Handled;
 use reference::list::Checked;
@@ -129,7 +130,7 @@ impl Calls for Faulty {
     }
 
     fn first_round(&self, state: &WorkState, budget: u32, list: &mut [u8]) -> Sought {
-        Fast.first_round(state, budget, list)
+        first_round_by(self, state, budget, list)
     }
 
     fn report(&self, state: &WorkState, buffer: &mut [u8]) -> Filled {

@@ -3,6 +3,7 @@
 use std::collections::BTreeSet;
 
 use reference::compare::ceilings::CeilingCounts;
+use reference::compare::finder::SearchCounts;
 use reference::compare::stable::StableCounts;
 use reference::compare::turns::TurnCounts;
 use reference::compare::{compare_sheet, Counts};
@@ -83,11 +84,18 @@ fn fast_calls_differ_nowhere() {
     assert!(stable.states > 300 && stable.after_hand > 80 && stable.steps > 4_000);
     assert!(stable.stray > 1_200 && stable.anew > 900 && stable.sheets > 300);
     assert!(stable.made_up > 100);
-    let counts = Counts {
+    let unstable = Counts {
         stable: StableCounts::default(),
-        ..counts
+        ..counts.clone()
     };
-    assert_eq!(counts.missing(1_000), Some("stable states"));
+    assert_eq!(unstable.missing(1_000), Some("stable states"));
+    for searches in without_one_search(&counts.searches) {
+        let counts = Counts {
+            searches,
+            ..counts.clone()
+        };
+        assert_eq!(counts.missing(1_000), Some("searches"));
+    }
 }
 
 fn without_one_count(ceilings: &CeilingCounts) -> [CeilingCounts; 4] {
@@ -109,6 +117,14 @@ fn without_one_kind(turns: &TurnCounts) -> [TurnCounts; 7] {
     without[5].refused = 0;
     without[6].of_no_opening = 0;
     without
+}
+
+fn without_one_search(searches: &SearchCounts) -> [SearchCounts; 13] {
+    std::array::from_fn(|at| {
+        let mut without = searches.clone();
+        *without.each_mut()[at] = 0;
+        without
+    })
 }
 
 #[test]

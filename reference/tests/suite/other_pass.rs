@@ -1,5 +1,6 @@
 //! The fast calls with passes of another kind, for what a comparison has to find.
 
+use reference::finder::first_round_by;
 use reference::hand::{self, Handled, Verdict};
 use reference::list::Checked;
 use reference::run::{run_with, Ran};
@@ -52,7 +53,7 @@ where
     }
 
     fn first_round(&self, state: &WorkState, budget: u32, list: &mut [u8]) -> Sought {
-        Fast.first_round(state, budget, list)
+        first_round_by(self, state, budget, list)
     }
 
     fn report(&self, state: &WorkState, buffer: &mut [u8]) -> Filled {

@@ -1,6 +1,7 @@
 //! The fast calls with runs or steps by hand of another kind, for what a comparison has
 //! to find.
 
+use reference::finder::first_round_by;
 use reference::hand::Handled;
 use reference::list::Checked;
 use reference::run::Ran;
@@ -54,7 +55,7 @@ where
     }
 
     fn first_round(&self, state: &WorkState, budget: u32, list: &mut [u8]) -> Sought {
-        Fast.first_round(state, budget, list)
+        first_round_by(self, state, budget, list)
     }
 
     fn report(&self, state: &WorkState, buffer: &mut [u8]) -> Filled {
