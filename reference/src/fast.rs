@@ -5,11 +5,13 @@
 //! bare from one matching for each direction.
 //!
 //! Pass and run come in two versions ([`Idle`]): one works through every level of
-//! every pass, the other tells most passes that change nothing beforehand.
+//! every pass, the other tells most passes that change nothing beforehand. The search
+//! for the first round is over runs of the latter.
 
 mod bits;
 mod chain;
 mod components;
+mod finder;
 mod flood;
 mod grid;
 mod idle;
@@ -32,6 +34,7 @@ use crate::run::Ran;
 use crate::state::{good_limit, last_place, End, WorkState};
 
 pub use self::components::components;
+pub use self::finder::first_round;
 pub use self::idle::{Idle, Told, Untold};
 pub use self::lines::report;
 pub use self::list::list_check;

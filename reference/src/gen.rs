@@ -16,7 +16,7 @@ use crate::table::{Leg, LegTable};
 
 pub use self::last_seed::last_seed_alone;
 pub use self::long_runs::long_runs;
-pub use self::shapes::{band, Shape, Ways, SHAPES};
+pub use self::shapes::{band, Shape, Ways, SEARCHED, SHAPES};
 pub use self::splits::{cut_at, split_budget};
 pub use self::states::any_state;
 pub use self::two_sides::two_sides;

@@ -1,11 +1,13 @@
-//! Grids of cells, for n a power of two from 4 on: roads join neighbours.
+//! Grids of cells, as square as their number lets them be: roads join neighbours. The
+//! round of those with one-way roads is for n a power of two from 4 on.
 
 use super::{add_round, round_along, two_way, Xorshift};
 use crate::table::{Leg, LegTable};
 
 /// The number of rows, and the cells of one.
-fn sides(n: usize) -> (usize, usize) {
-    let rows = 1 << (n.ilog2() / 2);
+pub fn sides(n: usize) -> (usize, usize) {
+    let most = n.isqrt();
+    let rows = (1..=most).rev().find(|rows| n % rows == 0).unwrap_or(1);
     (rows, n / rows)
 }
 

@@ -1,7 +1,7 @@
 //! The kinds of tables that are timed and measured, for n a power of two from 8 on.
 //! All have their stations numbered at random.
 
-use super::grids::{mixed_grid, one_way_grid, two_way_grid};
+use super::grids::{mixed_grid, one_way_grid, sides, two_way_grid};
 use super::{add_round, plant_round, ring, round_along, shuffled, two_way, Xorshift};
 use crate::table::{Leg, LegTable};
 
@@ -44,6 +44,12 @@ pub const SHAPES: [Shape; 14] = [
     one("one-way grid", one_way_grid),
     one("mixed grid", mixed_grid),
     one("band", |_, n| band(n)),
+];
+
+/// Two-way kinds on which the search for a round alone is timed. For knights n is 64.
+pub const SEARCHED: [Shape; 2] = [
+    both("cubic", cubic),
+    both("knight's moves", |_, n| knights_moves(n)),
 ];
 
 type Make = fn(&mut Xorshift, usize) -> LegTable;
@@ -116,6 +122,25 @@ fn ring_with_chords(rng: &mut Xorshift, n: usize) -> LegTable {
         table.add(from, to);
     }
     table
+}
+
+/// A ring in which roads across it join the stations in pairs.
+fn cubic(rng: &mut Xorshift, n: usize) -> LegTable {
+    let order = rng.order(n);
+    let pairs = order.chunks(2).map(|pair| (pair[0], pair[1]));
+    let roads: Vec<Leg> = ring(n).legs().into_iter().chain(pairs).collect();
+    two_way(n, &roads)
+}
+
+/// The cells of a board, joined by the moves of a knight.
+fn knights_moves(n: usize) -> LegTable {
+    let (_, width) = sides(n);
+    let cell = |i: usize| ((i - 1) / width, (i - 1) % width);
+    let joined = |&(i, j): &Leg| {
+        let (from, to) = (cell(i), cell(j));
+        from.0.abs_diff(to.0) * from.1.abs_diff(to.1) == 2
+    };
+    LegTable::from_legs(n, LegTable::full(n).legs().into_iter().filter(joined))
 }
 
 /// The round of stations in a line that goes up by the odd places and down by the

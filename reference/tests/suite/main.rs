@@ -8,6 +8,7 @@ mod chains;
 mod choices;
 mod compare;
 mod fast;
+mod fast_finder;
 mod finder;
 mod finder_faults;
 mod idle;
