@@ -2,7 +2,7 @@
 
 use std::ops::RangeInclusive;
 
-use crate::markdown::{capital, print_head, print_row};
+use crate::markdown::{capital, head, row};
 use crate::times::{Results, Timed};
 
 /// The most that a call of the library may take of the time of the plain Rust
@@ -51,7 +51,7 @@ impl Bar {
 
 pub fn print(results: &[Results]) {
     let heads = ["stations", "at most", "highest", "of", "met"];
-    print_head("call", &heads.map(String::from));
+    print!("{}", head("call", &heads.map(String::from)));
     for bar in BARS {
         let (ratio, place) = bar.worst(results);
         let met = if ratio <= bar.most { "yes" } else { "no" };
@@ -62,6 +62,6 @@ pub fn print(results: &[Results]) {
             place,
             met.into(),
         ];
-        print_row(&capital(bar.call.name()), &cells);
+        print!("{}", row(&capital(bar.call.name()), &cells));
     }
 }

@@ -8,7 +8,7 @@ use crate::base::Base;
 use crate::markdown::{capital, print_by_shape, size_heads, unit};
 use crate::shapes::{Input, Inputs};
 use crate::times::{Results, Times, REPETITIONS};
-use crate::{bars, components, SIZES, TABLES};
+use crate::{bars, components, finder, SIZES, TABLES};
 
 const HEAD: &str = "\
 # Benchmarks
@@ -72,10 +72,11 @@ pub fn print(shapes: &[Inputs], results: &[Results], base: Option<&Base>) {
     println!("\n## Bars\n");
     println!("The most that the library may take of the plain Rust version's time, and the highest ratio of all families.\n");
     bars::print(results);
+    print!("{}", finder::section());
 }
 
 /// The processor's name and the number of its cores.
-fn machine() -> String {
+pub fn machine() -> String {
     let told = fs::read_to_string("/proc/cpuinfo").unwrap_or_default();
     let mut names = told.lines().filter(|line| line.starts_with("model name"));
     let name = names.next().and_then(|line| line.split(": ").nth(1));

@@ -2,12 +2,14 @@
 //! same tables.
 //!
 //! `bench` prints `docs/BENCHMARKS.md`, with `--base FILE` also the times against
-//! those in the file. `bench --times FILE` writes the times to such a file.
+//! those in the file. `bench --times FILE` writes the times to such a file, and
+//! `bench --finder FILE` writes the section on the first round of such a document anew.
 
 mod bars;
 mod base;
 mod components;
 mod document;
+mod finder;
 mod markdown;
 mod shapes;
 mod sides;
@@ -25,7 +27,7 @@ const SIZES: [usize; 4] = [8, 16, 32, 64];
 const TABLES: usize = 6;
 const LIMIT: usize = 64;
 
-const USAGE: &str = "usage: bench [--base FILE | --times FILE]";
+const USAGE: &str = "usage: bench [--base FILE | --times FILE | --finder FILE]";
 
 fn main() {
     let arguments: Vec<String> = env::args().skip(1).collect();
@@ -33,7 +35,8 @@ fn main() {
     let done = match arguments[..] {
         [] => print(None),
         ["--base", file] => Base::read(file).and_then(|base| print(Some(&base))),
-        ["--times", file] => write(file),
+        ["--times", file] => write_times(file),
+        ["--finder", file] => write_finder(file),
         _ => Err(USAGE.into()),
     };
     if let Err(message) = done {
@@ -52,7 +55,18 @@ fn print(base: Option<&Base>) -> Result<(), String> {
     Ok(())
 }
 
-fn write(file: &str) -> Result<(), String> {
+fn write_times(file: &str) -> Result<(), String> {
     let results = timed(&SHAPES.map(Inputs::of));
-    fs::write(file, base::lines(&results)).map_err(|fault| format!("{file}: {fault}"))
+    write(file, base::lines(&results))
+}
+
+/// The section is the last one; what stands before it stays.
+fn write_finder(file: &str) -> Result<(), String> {
+    let text = fs::read_to_string(file).map_err(|fault| format!("{file}: {fault}"))?;
+    let before = text.split(finder::HEADING).next().unwrap_or_default();
+    write(file, before.to_string() + &finder::section())
+}
+
+fn write(file: &str, text: String) -> Result<(), String> {
+    fs::write(file, text).map_err(|fault| format!("{file}: {fault}"))
 }

@@ -9,17 +9,27 @@ pub fn size_heads() -> Vec<String> {
     SIZES.map(|n| format!("{n} stations")).into()
 }
 
-/// A row of cells for each shape, under the names of the two groups.
 pub fn print_by_shape(shapes: &[Inputs], heads: &[String], cells: impl Fn(usize) -> Vec<String>) {
-    print_head("tables", heads);
+    let rows = shapes.iter().enumerate();
+    let rows = rows.map(|(at, shape)| (shape.name, shape.ways, cells(at)));
+    print!("{}", by_shape(heads, rows));
+}
+
+/// A row of cells for each shape, under the names of the two groups.
+pub fn by_shape(
+    heads: &[String],
+    rows: impl Iterator<Item = (&'static str, Ways, Vec<String>)>,
+) -> String {
+    let mut text = head("tables", heads);
     let mut group = None;
-    for (at, shape) in shapes.iter().enumerate() {
-        if group != Some(shape.ways) {
-            group = Some(shape.ways);
-            print_row(group_name(shape.ways), &vec![String::new(); heads.len()]);
+    for (name, ways, cells) in rows {
+        if group != Some(ways) {
+            group = Some(ways);
+            text += &row(group_name(ways), &vec![String::new(); heads.len()]);
         }
-        print_row(shape.name, &cells(at));
+        text += &row(name, &cells);
     }
+    text
 }
 
 fn group_name(ways: Ways) -> &'static str {
@@ -29,13 +39,12 @@ fn group_name(ways: Ways) -> &'static str {
     }
 }
 
-pub fn print_head(first: &str, heads: &[String]) {
-    print_row(first, heads);
-    println!("|---|{}", "---|".repeat(heads.len()));
+pub fn head(first: &str, heads: &[String]) -> String {
+    format!("{}|---|{}\n", row(first, heads), "---|".repeat(heads.len()))
 }
 
-pub fn print_row(name: &str, cells: &[String]) {
-    println!("| {name} | {} |", cells.join(" | "));
+pub fn row(name: &str, cells: &[String]) -> String {
+    format!("| {name} | {} |\n", cells.join(" | "))
 }
 
 pub fn capital(name: &str) -> String {
@@ -47,7 +56,9 @@ pub fn unit(nanoseconds: f64) -> String {
         format!("{nanoseconds:.0} ns")
     } else if nanoseconds < 1e6 {
         format!("{:.2} µs", nanoseconds / 1e3)
-    } else {
+    } else if nanoseconds < 1e9 {
         format!("{:.2} ms", nanoseconds / 1e6)
+    } else {
+        format!("{:.2} s", nanoseconds / 1e9)
     }
 }

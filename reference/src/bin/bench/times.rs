@@ -171,17 +171,19 @@ pub fn medians(sides: &mut [Repetition]) -> Vec<f64> {
             times.extend(in_turn.map(|depth| at_depth(depth, side)));
         }
     }
-    let median = |mut times: Vec<f64>| {
-        times.sort_by(f64::total_cmp);
-        times[REPETITIONS / 2]
-    };
     times.into_iter().map(median).collect()
+}
+
+/// The middle one; of an even number the upper one of the two.
+pub fn median(mut numbers: Vec<f64>) -> f64 {
+    numbers.sort_by(f64::total_cmp);
+    numbers[numbers.len() / 2]
 }
 
 /// A repetition farther down the stack. By where their working space comes to lie,
 /// some calls take a fifth longer, and chance says where the stack begins.
 #[inline(never)]
-fn at_depth(depth: usize, repetition: &mut Repetition) -> f64 {
+pub fn at_depth(depth: usize, repetition: &mut Repetition) -> f64 {
     let room = black_box([0_u8; 200]);
     let time = match depth {
         0 => repetition(),
