@@ -15,18 +15,18 @@ const HEAD: &str = "\
 
 The proved library beside two Rust versions over 64-bit words (`reference/src/fast`), in one process and on the same tables. The *plain* version works through every level of every pass. The *same algorithm* does what the library does: it keeps a word of passes known to change nothing, answers at once for a seed next to all other stations, and tells most other passes that change nothing by pivots. The two differ in passes and runs alone.
 
-All numbers come from one call of the last line, on MACHINE:
+All numbers come from one call of the last line, on MACHINE; those of the last section may also come from the call that it names:
 
 ```
 git worktree add --detach ../base 6b2b745
 (cd ../base && rt staticlib loungeegret && rt staticlib measured)
-LOUNGEEGRET_LIB=$PWD/../base/target/staticlib cargo run --release --offline --features library --bin bench --manifest-path reference/Cargo.toml -- --times target/base.times
+RUSTFLAGS='-C link-arg=-Wl,--warn-unresolved-symbols' LOUNGEEGRET_LIB=$PWD/../base/target/staticlib cargo run --release --offline --features library --bin bench --manifest-path reference/Cargo.toml -- --times target/base.times
 rt staticlib loungeegret
 rt staticlib measured
 cargo run --release --offline --features library --bin bench --manifest-path reference/Cargo.toml -- --base target/base.times > docs/BENCHMARKS.md
 ```
 
-The first three lines write the times of commit 6b2b745, *the base*: taken by the same program, on the same tables. Without `--base` the last line leaves out what is told against them.
+The first three lines write the times of commit 6b2b745, *the base*: taken by the same program, on the same tables. It has no search for a round, which is not timed there, so the linker is told to let that symbol be. Without `--base` the last line leaves out what is told against them.
 ";
 
 const NOTES: &str = "\

@@ -62,3 +62,11 @@ pub fn unit(nanoseconds: f64) -> String {
         format!("{:.2} s", nanoseconds / 1e9)
     }
 }
+
+/// The digits in groups of three.
+pub fn grouped(number: u32) -> String {
+    match number {
+        0..=999 => number.to_string(),
+        _ => format!("{},{:03}", grouped(number / 1_000), number % 1_000),
+    }
+}

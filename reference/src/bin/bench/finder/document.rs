@@ -5,9 +5,9 @@ use reference::Outcome;
 
 use super::aims;
 use super::searches::{Searched, LITERAL_MOST};
-use super::tables::{self, Kind, GRIDS, RUNNING_OUT, SIZES, USUAL};
+use super::tables::{self, GRIDS, RUNNING_OUT, SIZES, USUAL};
 use crate::document::machine;
-use crate::markdown::{by_shape, head, row, unit};
+use crate::markdown::{by_shape, grouped, head, row, unit};
 use crate::times::{median, REPETITIONS};
 
 /// The section is the last one of the document.
@@ -19,7 +19,7 @@ Nodes and time of the search for the first round, with the limit 64; the count o
 - *literal*: every node is run, by the library's own run over its C interface; on tables with at most LITERAL_MOST nodes
 - *Rust*: the Rust version over 64-bit words (`reference/src/fast/finder.rs`), on the run that is the same algorithm as the library's. Like the library it counts two kinds of nodes without a run: those whose decided row has one leg already, and those where sweeps and chain steps by turns come to none
 
-Each cell has the median and the worst of TABLES tables, ratios the median and the highest. The time of a table is the median of up to REPETITIONS searches, of fewer if they take long. A search ends after BUDGET nodes; the last column counts the tables where it does. Tables are drawn until there are enough that the search does not find to have no round, which only roads may turn out to. Two more two-way families:
+Each cell has the median and the worst of TABLES tables, ratios the median and the highest. The time of a table is the median of up to REPETITIONS searches, of fewer if they take long. A search ends after BUDGET nodes; the last column counts the tables where it does. Tables on which the search says that there is no round are drawn anew; only roads have such ones. Two more two-way families:
 
 - cubic: a ring in which roads across it join the stations in pairs, chosen at random
 - knight's moves: the cells of a board of 8×8, joined by the moves of a knight; smaller boards have no round
@@ -38,7 +38,7 @@ pub struct Row {
 }
 
 impl Row {
-    /// Tables are drawn until there are enough that are not found to have no round.
+    /// A table without a round is drawn anew.
     fn with_round(shape: &'static Shape, n: usize) -> Row {
         let searched = tables::drawn(shape, n).map(|state| Searched::of(&state, USUAL.budget));
         let kept = searched.filter(|searched| searched.sought.outcome != Outcome::NoRound);
@@ -68,7 +68,7 @@ impl Row {
         let rust = self.all(|searched| Some(searched.over_rust()));
         let ratio = |ratio: f64| format!("{ratio:.2}");
         vec![
-            cell(nodes, |nodes| nodes.to_string()),
+            cell(nodes, |nodes| grouped(nodes as u32)),
             cell(times, unit),
             cell(literal, ratio),
             cell(rust, ratio),
@@ -110,10 +110,10 @@ pub fn section() -> String {
 
 fn introduction() -> String {
     INTRODUCTION
-        .replace("LITERAL_MOST", &LITERAL_MOST.to_string())
+        .replace("LITERAL_MOST", &grouped(LITERAL_MOST))
         .replace("TABLES", &USUAL.tables.to_string())
         .replace("REPETITIONS", &REPETITIONS.to_string())
-        .replace("BUDGET", &USUAL.budget.to_string())
+        .replace("BUDGET", &grouped(USUAL.budget))
         .replace("MACHINE", &machine())
 }
 
@@ -127,7 +127,7 @@ fn by_size(rows: &[Row]) -> String {
 
 /// The families on which most searches end without an answer.
 fn running_out() -> String {
-    let Kind { tables, budget } = RUNNING_OUT;
+    let (tables, budget) = (RUNNING_OUT.tables, grouped(RUNNING_OUT.budget));
     let mut text = format!("\n### Where it runs out\n\nGrids, stations numbered at random, {tables} tables each and up to {budget} nodes. That of 7×9 cells has no round: their number is odd, and every road joins cells of two colours.\n\n");
     text += &head("tables", &heads());
     for n in GRIDS {

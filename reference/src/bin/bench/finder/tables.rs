@@ -8,7 +8,6 @@ use crate::LIMIT;
 pub const SIZES: [usize; 3] = [16, 32, 64];
 
 /// Tables of one family and size, and the node budget of their searches.
-#[derive(Clone, Copy)]
 pub struct Kind {
     pub tables: usize,
     pub budget: u32,
