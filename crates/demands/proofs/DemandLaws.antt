@@ -18,7 +18,7 @@ use Rattle.circuit.specs.Round.{All}
 use Rattle.filter.specs.Leads.{Leads}
 use Rattle.filter.proofs.CallLaws.{stay, leads-on, open-none, handCall-leads, runCall-leads}
 use Rattle.filter.proofs.RunLaws.{budgets, run-bad}
-use Rattle.demands.specs.Sequence.{Call, calling, running, checking, reporting, writing, handed, afterAll}
+use Rattle.demands.specs.Sequence.{Call, calling, running, asking, handed, afterAll}
 use Rattle.demands.specs.Demands.{Demand1, Demand2, Kept, Demand3, SentBack}
 use Rattle.demands.proofs.RefusalLaws.{opening-refused, hand-refused, run-refused, list-refused, report-refused, write-refused}
 use Rattle.filter.proofs.RemovalLaws.{hand-removed, run-removed}
@@ -30,9 +30,7 @@ pub handed-leads : (P : (ℕ → ℕ) → Type 0) (w : Work) (c : Call) → Lead
 unfolding handed
 handed-leads P w (calling r) = handCall-leads P w r
 handed-leads P w (running budget) = runCall-leads P w budget
-handed-leads P w (checking list) = stay P w
-handed-leads P w (reporting buffer) = stay P w
-handed-leads P w (writing buffer) = stay P w
+handed-leads P w (asking q) = stay P w
 
 pub all-leads : (P : (ℕ → ℕ) → Type 0) (w : Work) (cs : List Call) → Leads P w (afterAll w cs)
 unfolding afterAll

@@ -14,7 +14,7 @@ use Rattle.sheet.proofs.GrammarLaws.{taken-sheet, opened-good, opened-long}
 use Rattle.filter.specs.Calls.{runCall}
 use Rattle.filter.specs.Stable.{anew, CycleInvariant}
 use Rattle.filter.proofs.StableLaws.{begun-invariant, hand-invariant, run-invariant, stable-means}
-use Rattle.demands.specs.Sequence.{Call, calling, running, checking, reporting, writing, handed, afterAll}
+use Rattle.demands.specs.Sequence.{Call, calling, running, asking, handed, afterAll}
 use Rattle.demands.specs.Stable.{StableAfter}
 use Rattle.demands.proofs.DemandLaws.{all-leads, sent-back}
 
@@ -23,9 +23,7 @@ pub handed-invariant : (w : Work) (c : Call) → CycleInvariant w → CycleInvar
 unfolding handed
 handed-invariant w (calling r) I = hand-invariant w r I
 handed-invariant w (running budget) I = run-invariant w budget I
-handed-invariant w (checking list) I = I
-handed-invariant w (reporting buffer) I = I
-handed-invariant w (writing buffer) I = I
+handed-invariant w (asking q) I = I
 
 pub all-invariant : (w : Work) (cs : List Call) → CycleInvariant w → CycleInvariant (afterAll w cs)
 unfolding afterAll

@@ -6,30 +6,26 @@ use Prim.Native.Nat.{ℕ, _+_}
 use Rattle.bitset.specs.Upto.{Each}
 use Rattle.circuit.specs.declared.state.Work.{Work}
 use Rattle.filter.specs.Calls.{runCall}
-use Rattle.demands.specs.Sequence.{Call, calling, running, checking, reporting, writing, afterAll}
+use Rattle.demands.specs.Sequence.{Call, calling, running, asking, afterAll}
 
 -- a call by hand: a sweep, a chain step or a pass
 unfoldable pub isByHand : Call → Bool
 isByHand (calling r) = true
 isByHand (running budget) = false
-isByHand (checking list) = false
-isByHand (reporting buffer) = false
-isByHand (writing buffer) = false
+isByHand (asking q) = false
 
 -- the budget that a call gives to runs
 unfoldable pub budgetOf : Call → ℕ
 budgetOf (calling r) = 0
 budgetOf (running budget) = budget
-budgetOf (checking list) = 0
-budgetOf (reporting buffer) = 0
-budgetOf (writing buffer) = 0
+budgetOf (asking q) = 0
 
 -- the sum of the budgets of a list of calls
 unfoldable pub budgetsOf : List Call → ℕ
 budgetsOf [] = 0
 budgetsOf (c ∷ cs) = budgetOf c + budgetsOf cs
 
--- no call by hand is in the list: runs, and between them list checks, reports and sheets written back
+-- no call by hand is in the list: runs, and between them queries
 abbrev pub NoneByHand : List Call → Type 0
 NoneByHand cs = Each (λ (c : Call). isByHand c ≡ false) cs
 

@@ -19,7 +19,7 @@ use Rattle.filter.specs.declared.cycle.Ran.{Ran}
 use Rattle.filter.specs.Calls.{handCall, runCall}
 use Rattle.circuit.specs.Round.{All}
 use Rattle.filter.proofs.CallLaws.{handCall-leads, runCall-leads}
-use Rattle.demands.specs.Sequence.{Call, calling, running, checking, reporting, writing, handed, afterAll}
+use Rattle.demands.specs.Sequence.{Call, calling, running, asking, handed, afterAll}
 use Rattle.demands.specs.Demands.{Refusal}
 use Rattle.demands.proofs.RefusalLaws.{hand-refused, run-refused}
 use Rattle.loungeegret.specs.Words.{stateWords, outOfRange, loaded, stored, storedIn}
@@ -89,9 +89,7 @@ handed-holds o s w H (running budget) =
     subst (λ (v : Work). Holds o (wordsBack s (runCall v budget .answer) (runCall v budget .work)) (runCall w budget .work)) (sym (H .is))
     (back-holds o s w H (runCall w budget .answer) (runCall w budget .work)
     (λ e. ap (λ (c : Ran). c .work) (run-refused w budget (refusal (runCall w budget .answer) e))) (runCall-leads All w budget .long (H .long)))
-handed-holds o s w H (checking list) = H
-handed-holds o s w H (reporting buffer) = H
-handed-holds o s w H (writing buffer) = H
+handed-holds o s w H (asking q) = H
 
 pub all-hold : (o s : List ℕ) (w : Work) → Holds o s w → (cs : List Call) → Holds o (wordsAll s cs) (afterAll w cs)
 unfolding wordsAll afterAll

@@ -7,7 +7,7 @@ use Rattle.circuit.specs.declared.card.Answer.{Answer}
 use Rattle.circuit.specs.declared.state.Work.{Work}
 use Rattle.sheet.specs.Open.{openCall}
 use Rattle.filter.specs.Calls.{handCall, runCall}
-use Rattle.demands.specs.Sequence.{Call, calling, running, checking, reporting, writing, afterAll}
+use Rattle.demands.specs.Sequence.{Call, calling, running, asking, afterAll}
 use Rattle.loungeegret.specs.Words.{stateWords, loaded, storedIn}
 use Rattle.loungeegret.specs.Results.{onState, wordsAfter}
 
@@ -23,9 +23,7 @@ wordsBack s a w = onState s s (wordsAfter s a w)
 unfoldable pub wordsHanded : List ℕ → Call → List ℕ
 wordsHanded s (calling r) = wordsBack s (handCall (loaded s) r .answer) (handCall (loaded s) r .work)
 wordsHanded s (running budget) = wordsBack s (runCall (loaded s) budget .answer) (runCall (loaded s) budget .work)
-wordsHanded s (checking list) = s
-wordsHanded s (reporting buffer) = s
-wordsHanded s (writing buffer) = s
+wordsHanded s (asking q) = s
 
 -- and after a list of calls
 unfoldable pub wordsAll : List ℕ → List Call → List ℕ
