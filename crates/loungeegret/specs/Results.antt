@@ -13,6 +13,8 @@ use Rattle.filter.specs.declared.hand.Called.{Called}
 use Rattle.filter.specs.declared.cycle.Ran.{Ran}
 use Rattle.circuit.specs.declared.list.Checked.{Checked}
 use Rattle.circuit.specs.declared.filled.Filled.{Filled}
+use Rattle.finder.specs.declared.outcome.Sought.{Sought}
+use Rattle.finder.specs.Call.{outcomeCode}
 use Rattle.circuit.specs.Card.{number}
 use Rattle.circuit.specs.Fill.{filled}
 use Rattle.writer.specs.Lent.{written}
@@ -57,6 +59,13 @@ pub record RunResult (c : Ran) (s s₁ : List ℕ) (m m₁ k k₁ r : ℕ) : Typ
 pub record CheckResult (c : Checked) (s : List ℕ) (y y₁ r : ℕ) : Type 0 where
   pub number : r ≡ onState s noState (number (c .answer))
   pub yes : y₁ ≡ onState s y (digit (c .yes))
+
+-- the search for the first round, which makes t of the bytes b of the list; o is the outcome's code and m the nodes
+pub record FirstResult (c : Sought) (t s b b₁ : List ℕ) (o o₁ m m₁ r : ℕ) : Type 0 where
+  pub number : r ≡ onState s noState (number (c .answer))
+  pub bytes : b₁ ≡ onState s b t
+  pub outcome : o₁ ≡ onState s o (outcomeCode (c .outcome))
+  pub nodes : m₁ ≡ onState s m (c .nodes)
 
 -- a call that fills a lent buffer and makes t of its bytes b: the report, and the sheet written back
 pub record FillResult (c : Filled) (t s b b₁ : List ℕ) (l l₁ r : ℕ) : Type 0 where
