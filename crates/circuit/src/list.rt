@@ -1,11 +1,15 @@
 // The list check.
 use crate::card::Answer;
 use crate::state::Work;
+use crate::state::is_bad_state;
 ghost use denote.Ref.{now};
+ghost use mathlib.Core.Bool.{Bool};
 ghost use mathlib.Core.Path.{_≡_};
 ghost use Prim.Native.Nat.{_≤_, _<_};
 ghost use lib.ListN.{length};
 ghost use Rattle.bitset.specs.Tests.{Decides};
+ghost use Rattle.circuit.specs.declared.card.End.{End};
+ghost use Rattle.circuit.specs.State.{state};
 ghost use Rattle.circuit.specs.Check.{choiceOf, Numbers, isList, checkCall};
 ghost use Rattle.circuit.specs.inner.Lists.{goodEntry, goodEntries, Returns};
 
@@ -20,25 +24,31 @@ impl Work {
     pub fn check_list(self, list: &[u8]) -> Checked
         ensures { λ r. ⌜ r ≡ checkCall self (now (list .entry)) ⌝ }
     {
-        if self.is_bad() {
-            return Checked {
-                answer: Answer::BadWork,
-                yes: false,
-            };
-        }
-        let n = self.n;
-        if list.len() != n {
-            return Checked {
-                answer: Answer::WrongLength,
-                yes: false,
-            };
-        }
         let table = self.table;
         let rows = table.rows;
-        Checked {
-            answer: Answer::Taken,
-            yes: is_list(&rows, n, list),
-        }
+        check_list_in(&rows, self.n, self.limit, self.place, list)
+    }
+}
+
+// The same on a state that lies in parts: mark and end say nothing of it.
+pub fn check_list_in(rows: &[u64; 64], n: usize, limit: usize, place: usize, list: &[u8]) -> Checked
+    ensures { λ r. ⌜ ((mark : Bool) (end : End) → r ≡ checkCall (state n (now (rows .entry)) limit place mark end) (now (list .entry))) ⌝ }
+{
+    if is_bad_state(rows, n, limit, place) {
+        return Checked {
+            answer: Answer::BadWork,
+            yes: false,
+        };
+    }
+    if list.len() != n {
+        return Checked {
+            answer: Answer::WrongLength,
+            yes: false,
+        };
+    }
+    Checked {
+        answer: Answer::Taken,
+        yes: is_list(rows, n, list),
     }
 }
 

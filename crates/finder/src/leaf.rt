@@ -1,7 +1,4 @@
 // A node with all stations decided.
-use circuit::End;
-use circuit::Table;
-use circuit::Work;
 ghost use denote.Ref.{now};
 ghost use mathlib.Core.Bool.{cond};
 ghost use mathlib.Core.Path.{_≡_};
@@ -30,14 +27,6 @@ fn write_list(rows: &[u64; 64], n: usize, list: &mut [u8])
     }
 }
 
-// The node's state after its run, for the list check.
-fn stable(rows: &[u64; 64], n: usize, limit: usize) -> Work
-    ensures { λ r. ⌜ r ≡ stableAt n limit (now (rows .entry)) ⌝ }
-{
-    let table = Table { rows: *rows };
-    Work::new(n, table, limit, 0, false, End::Stable)
-}
-
 // Does the list of its rows pass the list check? Then it is in the lent list.
 pub fn try_list(rows: &[u64; 64], n: usize, limit: usize, list: &mut [u8]) -> bool
     requires { ⌜ (n ≤ 64) × (length (now list) ≡ n) ⌝ }
@@ -46,7 +35,7 @@ pub fn try_list(rows: &[u64; 64], n: usize, limit: usize, list: &mut [u8]) -> bo
 {
     let mut own = [0u8; 64];
     write_list(rows, n, &mut own[..n]);
-    let checked = stable(rows, n, limit).check_list(&own[..n]);
+    let checked = circuit::check_list_in(rows, n, limit, 0, &own[..n]);
     if checked.yes {
         write_list(rows, n, list);
         return true;

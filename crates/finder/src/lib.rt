@@ -26,7 +26,8 @@ pub fn first_round(work: Work, budget: u32, list: &mut [u8]) -> Sought
     }
     let table = work.table;
     let mut rows = table.rows;
-    let part = descend(&mut rows, n, work.limit, false, n, budget, list);
+    let mut spare = [0u64; 64];
+    let part = descend(&mut rows, &mut spare, n, work.limit, false, n, budget, list);
     let outcome = part.outcome;
     Sought {
         answer: Answer::Taken,

@@ -20,18 +20,18 @@ const START: Cursor = Cursor {
 const TURNS: usize = 64;
 
 // Do sweeps and chain steps alone come to none? Then the run ends none too. They are much quicker than a run, and one-sided: where they do
-// not, the run may end none all the same.
-fn comes_to_none(rows: &[u64; 64], n: usize, limit: usize) -> bool
+// not, the run may end none all the same. They strike in the spare table.
+fn comes_to_none(rows: &[u64; 64], spare: &mut [u64; 64], n: usize, limit: usize) -> bool
     requires { ⌜ Begun (nodeAt n limit (now rows)) ⌝ }
     ensures { λ r. ⌜ (r ≡ true → isNone (settled (nodeAt n limit (now (rows .entry))) .end) ≡ true) ⌝ }
 {
-    let mut left = *rows;
+    *spare = *rows;
     let mut at = START;
     let mut turns = 0usize;
     while turns < TURNS {
-        let swept = filter::call_in(&mut left, n, limit, at, Rule::Sweep);
+        let swept = filter::call_in(spare, n, limit, at, Rule::Sweep);
         let between = swept.at;
-        let chained = filter::call_in(&mut left, n, limit, between, Rule::Chain);
+        let chained = filter::call_in(spare, n, limit, between, Rule::Chain);
         at = chained.at;
         let end = at.end;
         if end.is_none() {
@@ -47,14 +47,20 @@ fn comes_to_none(rows: &[u64; 64], n: usize, limit: usize) -> bool
 
 // Runs the node, and says whether its end is none; otherwise the rows are those that its run leaves. A run that is known to leave the table
 // is not made, and one that is known to end none neither.
-pub fn settle(rows: &mut [u64; 64], n: usize, limit: usize, known: bool) -> bool
+pub fn settle(
+    rows: &mut [u64; 64],
+    spare: &mut [u64; 64],
+    n: usize,
+    limit: usize,
+    known: bool,
+) -> bool
     requires { ⌜ Begun (nodeAt n limit (now rows)) × Known known (nodeAt n limit (now rows)) ⌝ }
     ensures { λ r. ⌜ Settles (nodeAt n limit (now (rows .entry))) r (now (rows .exit)) ⌝ }
 {
     if known {
         return false;
     }
-    if comes_to_none(rows, n, limit) {
+    if comes_to_none(rows, spare, n, limit) {
         return true;
     }
     let ran = filter::run_in(rows, n, limit, START, filter::FULL_BUDGET);

@@ -12,9 +12,10 @@ ghost use Rattle.finder.specs.inner.Nodes.{nodeAt, Begun, Known};
 ghost use Rattle.finder.specs.inner.Parts.{within, given};
 
 // The node with these rows, of whose stations the last `undecided` are undecided, and all that is below it. `known`: its run is known to leave
-// its table. A level keeps one table, that of the child it is at.
+// its table. A level keeps one table, that of the child it is at; the spare one is lent to all.
 pub fn descend(
     rows: &mut [u64; 64],
+    spare: &mut [u64; 64],
     n: usize,
     limit: usize,
     known: bool,
@@ -32,7 +33,7 @@ pub fn descend(
         };
     }
     let mut left = budget - 1;
-    if settle(rows, n, limit, known) {
+    if settle(rows, spare, n, limit, known) {
         return Part {
             outcome: Outcome::NoRound,
             left,
@@ -59,6 +60,7 @@ pub fn descend(
         child[d] = only;
         let part = descend(
             &mut child,
+            spare,
             n,
             limit,
             next == only,

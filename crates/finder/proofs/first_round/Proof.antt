@@ -36,22 +36,22 @@ returns-2 c =
 
 descend-requires : tie.Need-descend-requires
 descend-requires c κs =
-    let w = c .before .before .before .before .before .before .before .before .args .work in
-    let o : bad w ≡ false = sym (c .before .before .before .before .before .before .is-bad .ensures) ∙ c .before .before .before .before .before .if1 .left in
+    let w = c .before .before .before .before .before .before .before .before .before .args .work in
+    let o : bad w ≡ false = sym (c .before .before .before .before .before .before .before .is-bad .ensures) ∙ c .before .before .before .before .before .before .if1 .left in
     let long : length (rowsOf w) ≡ 64 = search needs in
-    (root-begun w (good w o) long, (λ q. clash (sym q)), omega arith, c .before .before .before .before .if2 .left)
+    (root-begun w (good w o) long, (λ q. clash (sym q)), omega arith, c .before .before .before .before .before .if2 .left)
 
-sub-t18 : tie.Need-sub-t18
-sub-t18 c = let e = ap (λ (x : Within). x .left) (c .before .before .before .descend .ensures) in omega (arith, e)
+sub-t20 : tie.Need-sub-t20
+sub-t20 c = let e = ap (λ (x : Within). x .left) (c .before .before .before .descend .ensures) in omega (arith, e)
 
 same-length : tie.Need-same-length
 same-length c = search needs
 
 returns-3 : tie.Need-returns-3
 returns-3 c =
-    let a = c .before .before .before .before .before .before .before .before .before .before .before .before .args in
-    let o : bad (a .work) ≡ false = sym (c .before .before .before .before .before .before .before .before .before .before .is-bad .ensures) ∙ c .before .before .before .before .before .before .before .before .before .if1 .left in
-    let t = call-code (a .work) (a .budget) (a .list .now) _ _ o (c .before .before .before .before .before .before .before .before .if2 .left) (c .before .before .before .descend .ensures) in
+    let a = c .before .before .before .before .before .before .before .before .before .before .before .before .before .args in
+    let o : bad (a .work) ≡ false = sym (c .before .before .before .before .before .before .before .before .before .before .before .is-bad .ensures) ∙ c .before .before .before .before .before .before .before .before .before .before .if1 .left in
+    let t = call-code (a .work) (a .budget) (a .list .now) _ _ o (c .before .before .before .before .before .before .before .before .before .if2 .left) (c .before .before .before .descend .ensures) in
     (ap (λ (x : Answered). x .sought) t, ap (λ (x : Answered). x .list) t)
 
 pub first-round-spec : {M : Type 1} → statement M
@@ -64,6 +64,6 @@ first-round-spec =
     refused-requires-2
     returns-2
     descend-requires
-    sub-t18
+    sub-t20
     same-length
     returns-3)

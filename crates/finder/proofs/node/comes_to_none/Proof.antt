@@ -11,11 +11,11 @@ use Rattle.finder.proofs.node.comes_to_none.Statement.{statement}
 use Rattle.finder.proofs.node.comes_to_none.Tie as tie
 
 abbrev Inv-loop : tie.InvT-loop
-Inv-loop rows n limit left₀ at₀ turns₀ left at turns =
-    (turns ≤ 64) × Closing (nodeAt n limit rows) (state n left limit (at .place) (at .mark) (at .end))
+Inv-loop rows spare₀ n limit at₀ turns₀ spare at turns =
+    (turns ≤ 64) × Closing (nodeAt n limit rows) (state n spare limit (at .place) (at .mark) (at .end))
 
 abbrev μ-loop : tie.MeasureT-loop
-μ-loop rows n limit left₀ at₀ turns₀ left at turns = 64 - turns
+μ-loop rows spare₀ n limit at₀ turns₀ spare at turns = 64 - turns
 
 loop-holds : tie.Need-loop-holds Inv-loop μ-loop
 loop-holds c = (zero-le, record { long = c .before .pre .long; inside = λ t F I. I })

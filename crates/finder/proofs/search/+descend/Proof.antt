@@ -28,24 +28,24 @@ use Rattle.finder.proofs.search.+descend.{statement}
 use Rattle.finder.proofs.search.+descend.Tie.{close}
 
 -- the undecided stations fall
-abbrev μ-descend : Measures 2 descend-kinds.ps ℕ
-μ-descend κs a = a .1 .1 .1 .1 .0
+abbrev μ-descend : Measures 3 descend-kinds.ps ℕ
+μ-descend κs a = a .1 .1 .1 .1 .1 .0
 
-abbrev descend-at : ℕ → In 2 descend-kinds.ps
-descend-at t = and 2 descend-kinds.ps (is 2 descend-kinds.ps μ-descend t) descend.Pre
+abbrev descend-at : ℕ → In 3 descend-kinds.ps
+descend-at t = and 3 descend-kinds.ps (is 3 descend-kinds.ps μ-descend t) descend.Pre
 
-abbrev descend-below : ℕ → In 2 descend-kinds.ps
-descend-below t = and 2 descend-kinds.ps (falls 2 descend-kinds.ps _<_ μ-descend t) descend.Pre
+abbrev descend-below : ℕ → In 3 descend-kinds.ps
+descend-below t = and 3 descend-kinds.ps (falls 3 descend-kinds.ps _<_ μ-descend t) descend.Pre
 
 abbrev claims : ℕ → descend-lts.Claims
 claims t = (settle-reads.Asked, settle-reads.Learnt, try-list-reads.Asked, try-list-reads.Learnt, descend-below t, descend.Post, is-no-round-reads.Asked, is-no-round-reads.Learnt)
 
 abbrev descend-Inv-loop : descend-lts.InvT-loop
-descend-Inv-loop rows₀ n limit known undecided budget list₀ left₀ d next rest₀ rows list left rest =
+descend-Inv-loop rows₀ spare₀ n limit known undecided budget list₀ left₀ d next rest₀ rows spare list left rest =
     (rows ≡ rows₀) × Rest n limit undecided rows₀ d left₀ rest₀ list₀ left rest list
 
 abbrev descend-μ-loop : descend-lts.MeasureT-loop
-descend-μ-loop rows₀ n limit known undecided budget list₀ left₀ d next rest₀ rows list left rest = rest
+descend-μ-loop rows₀ spare₀ n limit known undecided budget list₀ left₀ d next rest₀ rows spare list left rest = rest
 
 descend-returns : (t : ℕ) → descend-lts.Need-returns (claims t) (descend-at t) descend.Post descend-Inv-loop descend-μ-loop
 descend-returns t c =
@@ -57,24 +57,24 @@ descend-sub-left : (t : ℕ) → descend-lts.Need-sub-left (claims t) (descend-a
 descend-sub-left t c = omega arith
 
 descend-settle-requires : (t : ℕ) → descend-lts.Need-settle-requires (claims t) (descend-at t) descend.Post descend-Inv-loop descend-μ-loop
-descend-settle-requires t c κs = let p = c .before .before .before .pre .1 in (p .0, p .1)
+descend-settle-requires t c κs = let p = c .before .before .before .before .pre .1 in (p .0, p .1)
 
 descend-returns-2 : (t : ℕ) → descend-lts.Need-returns-2 (claims t) (descend-at t) descend.Post descend-Inv-loop descend-μ-loop
 descend-returns-2 t c =
-    let a = c .before .before .before .before .before .args in
+    let a = c .before .before .before .before .before .before .args in
     let t = c .before .settle .last .0 in
     let S = subst (λ (x : Bool). Settles (nodeAt (a .n) (a .limit) (a .rows .now)) x t) (c .if2 .taken) (c .before .settle .ensures) in
     node-end (a .n) (a .limit) (a .undecided) (a .rows .now) (a .list .now) (a .budget) (omega arith) t S
 
 descend-try-list-requires : (t : ℕ) → descend-lts.Need-try-list-requires (claims t) (descend-at t) descend.Post descend-Inv-loop descend-μ-loop
-descend-try-list-requires t c κs = let p = c .before .before .before .before .before .before .before .before .pre .1 in (p .0 .good .most, p .3)
+descend-try-list-requires t c κs = let p = c .before .before .before .before .before .before .before .before .before .pre .1 in (p .0 .good .most, p .3)
 
 descend-same-length : (t : ℕ) → descend-lts.Need-same-length (claims t) (descend-at t) descend.Post descend-Inv-loop descend-μ-loop
 descend-same-length t c = search needs
 
 descend-returns-3 : (t : ℕ) → descend-lts.Need-returns-3 (claims t) (descend-at t) descend.Post descend-Inv-loop descend-μ-loop
 descend-returns-3 t c =
-    let a = c .before .before .before .before .before .before .before .before .before .before .before .before .args in
+    let a = c .before .before .before .before .before .before .before .before .before .before .before .before .before .args in
     let y = c .before .before .before .try-list .ensures in
     let t = c .before .before .before .before .before .before .before .before .settle .last .0 in
     let S = subst (λ (x : Bool). Settles (nodeAt (a .n) (a .limit) (a .rows .now)) x t) (c .before .before .before .before .before .before .before .if2 .left) (c .before .before .before .before .before .before .before .before .settle .ensures) in
@@ -87,7 +87,7 @@ descend-same-length-2 t c = search needs
 
 descend-returns-4 : (t : ℕ) → descend-lts.Need-returns-4 (claims t) (descend-at t) descend.Post descend-Inv-loop descend-μ-loop
 descend-returns-4 t c =
-    let a = c .before .before .before .before .before .before .before .before .before .before .before .before .args in
+    let a = c .before .before .before .before .before .before .before .before .before .before .before .before .before .args in
     let y = c .before .before .before .try-list .ensures in
     let t = c .before .before .before .before .before .before .before .before .settle .last .0 in
     let S = subst (λ (x : Bool). Settles (nodeAt (a .n) (a .limit) (a .rows .now)) x t) (c .before .before .before .before .before .before .before .if2 .left) (c .before .before .before .before .before .before .before .before .settle .ensures) in
@@ -96,18 +96,18 @@ descend-returns-4 t c =
     ∙ node-leaf (a .n) (a .limit) (a .undecided) (a .rows .now) (a .list .now) (a .budget) (omega arith) t S (c .before .before .before .before .before .before .if3 .taken)
 
 descend-sub-d : (t : ℕ) → descend-lts.Need-sub-d (claims t) (descend-at t) descend.Post descend-Inv-loop descend-μ-loop
-descend-sub-d t c = omega (arith, c .before .before .before .before .before .before .pre .1 .2)
+descend-sub-d t c = omega (arith, c .before .before .before .before .before .before .before .pre .1 .2)
 
 descend-mul-next : (t : ℕ) → descend-lts.Need-mul-next (claims t) (descend-at t) descend.Post descend-Inv-loop descend-μ-loop
-descend-mul-next t c = omega (arith, c .before .before .before .before .before .before .pre .1 .0 .good .most)
+descend-mul-next t c = omega (arith, c .before .before .before .before .before .before .before .pre .1 .0 .good .most)
 
 descend-element-copy-out-next : (t : ℕ) → descend-lts.Need-element-copy-out-next (claims t) (descend-at t) descend.Post descend-Inv-loop descend-μ-loop
-descend-element-copy-out-next t c = omega (arith, c .before .before .before .before .before .before .pre .1 .0 .good .most)
+descend-element-copy-out-next t c = omega (arith, c .before .before .before .before .before .before .before .pre .1 .0 .good .most)
 
 descend-loop-holds : (t : ℕ) → descend-lts.Need-loop-holds (claims t) (descend-at t) descend.Post descend-Inv-loop descend-μ-loop
 descend-loop-holds t c =
-    let a = c .before .before .before .before .before .before .before .args in
-    let p = c .before .before .before .before .before .before .before .pre .1 in
+    let a = c .before .before .before .before .before .before .before .before .args in
+    let p = c .before .before .before .before .before .before .before .before .pre .1 in
     let t = c .before .before .before .settle .last .0 in
     let S = subst (λ (x : Bool). Settles (nodeAt (a .n) (a .limit) (a .rows .now)) x t) (c .before .before .if2 .left) (c .before .before .before .settle .ensures) in
     (refl, rest-start _ _ _ _ _ _ _ _ (row-word (a .n) (a .limit) (a .rows .now) t (p .0) S (a .n - a .undecided) (omega (arith, p .2))) (p .3))
@@ -119,23 +119,23 @@ descend-shl-only : (t : ℕ) → descend-lts.Need-shl-only (claims t) (descend-a
 descend-shl-only t c = trailing-least 64 (c .before .loop .rest) (omega arith) (c .before .loop .inv .1 .word) .below
 
 descend-mul-child : (t : ℕ) → descend-lts.Need-mul-child (claims t) (descend-at t) descend.Post descend-Inv-loop descend-μ-loop
-descend-mul-child t c = omega (arith, c .before .before .before .before .before .before .before .before .before .before .pre .1 .0 .good .most)
+descend-mul-child t c = omega (arith, c .before .before .before .before .before .before .before .before .before .before .before .pre .1 .0 .good .most)
 
 descend-array-write-child : (t : ℕ) → descend-lts.Need-array-write-child (claims t) (descend-at t) descend.Post descend-Inv-loop descend-μ-loop
-descend-array-write-child t c = omega (arith, c .before .before .before .before .before .before .before .before .before .before .pre .1 .0 .good .most)
+descend-array-write-child t c = omega (arith, c .before .before .before .before .before .before .before .before .before .before .before .pre .1 .0 .good .most)
 
 descend-sub-descend : (t : ℕ) → descend-lts.Need-sub-descend (claims t) (descend-at t) descend.Post descend-Inv-loop descend-μ-loop
 descend-sub-descend t c = omega arith
 
 descend-descend-requires : (t : ℕ) → descend-lts.Need-descend-requires (claims t) (descend-at t) descend.Post descend-Inv-loop descend-μ-loop
 descend-descend-requires t c κs =
-    let top = c .before .before .before .before .before .before .before .before .before .before .before .before in
+    let top = c .before .before .before .before .before .before .before .before .before .before .before .before .before .before in
     let a = top .args in
     let p = top .pre .1 in
-    let l = c .before .before .before .before .loop in
-    let t = c .before .before .before .before .before .before .before .before .settle .last .0 in
+    let l = c .before .before .before .before .before .loop in
+    let t = c .before .before .before .before .before .before .before .before .before .settle .last .0 in
     let d = a .n - a .undecided in
-    let S = subst (λ (x : Bool). Settles (nodeAt (a .n) (a .limit) (a .rows .now)) x t) (c .before .before .before .before .before .before .before .if2 .left) (c .before .before .before .before .before .before .before .before .settle .ensures) in
+    let S = subst (λ (x : Bool). Settles (nodeAt (a .n) (a .limit) (a .rows .now)) x t) (c .before .before .before .before .before .before .before .before .if2 .left) (c .before .before .before .before .before .before .before .before .before .settle .ensures) in
     let least = trailing-least 64 (l .rest) (omega arith) (l .inv .1 .word) in
     let only = shl-one 64 (trailingZeros 64 (l .rest)) (least .below) in
     let low : d < 64 = omega (arith, p .0 .good .most) in
@@ -149,45 +149,45 @@ descend-sub-rest : (t : ℕ) → descend-lts.Need-sub-rest (claims t) (descend-a
 descend-sub-rest t c = omega arith
 
 descend-loop-less : (t : ℕ) → descend-lts.Need-loop-less (claims t) (descend-at t) descend.Post descend-Inv-loop descend-μ-loop
-descend-loop-less t c = let r = c .before .before .before .before .before .before .before .before .before .loop .rest in omega (arith, and-le-r r (r - 1))
+descend-loop-less t c = let r = c .before .before .before .before .before .before .before .before .before .before .loop .rest in omega (arith, and-le-r r (r - 1))
 
 descend-loop-again : (t : ℕ) → descend-lts.Need-loop-again (claims t) (descend-at t) descend.Post descend-Inv-loop descend-μ-loop
 descend-loop-again t c =
-    let a = c .before .before .before .before .before .before .before .before .before .before .before .before .before .before .before .before .before .args in
-    let l = c .before .before .before .before .before .before .before .before .before .loop in
-    let t = c .before .before .before .before .before .before .before .before .before .before .before .before .before .settle .last .0 in
+    let a = c .before .before .before .before .before .before .before .before .before .before .before .before .before .before .before .before .before .before .before .args in
+    let l = c .before .before .before .before .before .before .before .before .before .before .loop in
+    let t = c .before .before .before .before .before .before .before .before .before .before .before .before .before .before .settle .last .0 in
     let d = a .n - a .undecided in
     let y = c .before .before .before .before .descend in
-    let new : List ℕ = y .last .1 .1 .1 .1 .1 .1 .0 in
+    let new : List ℕ = y .last .1 .1 .1 .1 .1 .1 .1 .0 in
     let least = trailing-least 64 (l .rest) (omega arith) (l .inv .1 .word) in
     let g : given (y .result) new ≡ within (l .left) (searchFrom (a .undecided - 1) (child (a .n) (a .limit) t d (trailingZeros 64 (l .rest)))) (l .list) =
     y .ensures ∙ ap₂ (λ (r : List ℕ) (x : ℕ). within (l .left) (searchFrom (a .undecided - 1) (nodeAt (a .n) (a .limit) (set r d x))) (l .list)) (l .inv .0) (shl-one 64 (trailingZeros 64 (l .rest)) (least .below)) in
-    (l .inv .0, rest-next _ _ _ _ _ _ _ _ _ _ _ (l .inv .1) (omega arith) (y .result) new g (sym (c .before .is-no-round .ensures) ∙ c .if5 .taken) (y .kept .1 .1 .1 .1 .1 .1 .0 ∙ l .inv .1 .len))
+    (l .inv .0, rest-next _ _ _ _ _ _ _ _ _ _ _ (l .inv .1) (omega arith) (y .result) new g (sym (c .before .is-no-round .ensures) ∙ c .if5 .taken) (y .kept .1 .1 .1 .1 .1 .1 .1 .0 ∙ l .inv .1 .len))
 
 descend-same-length-3 : (t : ℕ) → descend-lts.Need-same-length-3 (claims t) (descend-at t) descend.Post descend-Inv-loop descend-μ-loop
-descend-same-length-3 t c = c .before .before .before .before .descend .kept .1 .1 .1 .1 .1 .1 .0 ∙ c .before .before .before .before .before .before .before .before .before .loop .inv .1 .len ∙ sym (c .before .before .before .before .before .before .before .before .before .before .before .before .before .before .before .before .before .pre .1 .3)
+descend-same-length-3 t c = c .before .before .before .before .descend .kept .1 .1 .1 .1 .1 .1 .1 .0 ∙ c .before .before .before .before .before .before .before .before .before .before .loop .inv .1 .len ∙ sym (c .before .before .before .before .before .before .before .before .before .before .before .before .before .before .before .before .before .before .before .pre .1 .3)
 
 descend-returns-5 : (t : ℕ) → descend-lts.Need-returns-5 (claims t) (descend-at t) descend.Post descend-Inv-loop descend-μ-loop
 descend-returns-5 t c =
-    let a = c .before .before .before .before .before .before .before .before .before .before .before .before .before .before .before .before .before .args in
-    let l = c .before .before .before .before .before .before .before .before .before .loop in
-    let t = c .before .before .before .before .before .before .before .before .before .before .before .before .before .settle .last .0 in
+    let a = c .before .before .before .before .before .before .before .before .before .before .before .before .before .before .before .before .before .before .before .args in
+    let l = c .before .before .before .before .before .before .before .before .before .before .loop in
+    let t = c .before .before .before .before .before .before .before .before .before .before .before .before .before .before .settle .last .0 in
     let d = a .n - a .undecided in
     let y = c .before .before .before .before .descend in
-    let new : List ℕ = y .last .1 .1 .1 .1 .1 .1 .0 in
+    let new : List ℕ = y .last .1 .1 .1 .1 .1 .1 .1 .0 in
     let least = trailing-least 64 (l .rest) (omega arith) (l .inv .1 .word) in
     let g : given (y .result) new ≡ within (l .left) (searchFrom (a .undecided - 1) (child (a .n) (a .limit) t d (trailingZeros 64 (l .rest)))) (l .list) =
     y .ensures ∙ ap₂ (λ (r : List ℕ) (x : ℕ). within (l .left) (searchFrom (a .undecided - 1) (nodeAt (a .n) (a .limit) (set r d x))) (l .list)) (l .inv .0) (shl-one 64 (trailingZeros 64 (l .rest)) (least .below)) in
-    let S = subst (λ (x : Bool). Settles (nodeAt (a .n) (a .limit) (a .rows .now)) x t) (c .before .before .before .before .before .before .before .before .before .before .before .before .if2 .left) (c .before .before .before .before .before .before .before .before .before .before .before .before .before .settle .ensures) in
+    let S = subst (λ (x : Bool). Settles (nodeAt (a .n) (a .limit) (a .rows .now)) x t) (c .before .before .before .before .before .before .before .before .before .before .before .before .before .if2 .left) (c .before .before .before .before .before .before .before .before .before .before .before .before .before .before .settle .ensures) in
     rest-stop _ _ _ _ _ _ _ _ _ _ _ (l .inv .1) (omega arith) (y .result) new g (sym (c .before .is-no-round .ensures) ∙ c .if5 .left)
     ∙ node-children (a .n) (a .limit) (a .undecided) (a .rows .now) (a .list .now) (a .budget) (omega arith) t S (omega arith)
 
 descend-same-length-4 : (t : ℕ) → descend-lts.Need-same-length-4 (claims t) (descend-at t) descend.Post descend-Inv-loop descend-μ-loop
-descend-same-length-4 t c = c .before .loop .inv .1 .len ∙ sym (c .before .before .before .before .before .before .before .before .before .pre .1 .3)
+descend-same-length-4 t c = c .before .loop .inv .1 .len ∙ sym (c .before .before .before .before .before .before .before .before .before .before .pre .1 .3)
 
 descend-returns-6 : (t : ℕ) → descend-lts.Need-returns-6 (claims t) (descend-at t) descend.Post descend-Inv-loop descend-μ-loop
 descend-returns-6 t c =
-    let a = c .before .before .before .before .before .before .before .before .before .args in
+    let a = c .before .before .before .before .before .before .before .before .before .before .args in
     let l = c .before .loop in
     let t = c .before .before .before .before .before .settle .last .0 in
     let S = subst (λ (x : Bool). Settles (nodeAt (a .n) (a .limit) (a .rows .now)) x t) (c .before .before .before .before .if2 .left) (c .before .before .before .before .before .settle .ensures) in
