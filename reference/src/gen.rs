@@ -3,10 +3,10 @@
 mod grids;
 mod last_seed;
 mod long_runs;
+mod searches;
 mod shapes;
 mod splits;
 mod states;
-mod two_sides;
 mod valleys;
 
 use std::ops::RangeInclusive;
@@ -16,10 +16,10 @@ use crate::table::{Leg, LegTable};
 
 pub use self::last_seed::last_seed_alone;
 pub use self::long_runs::long_runs;
+pub use self::searches::{struck_above, two_sides};
 pub use self::shapes::{band, Shape, Ways, SEARCHED, SHAPES};
 pub use self::splits::{cut_at, split_budget};
 pub use self::states::any_state;
-pub use self::two_sides::two_sides;
 pub use self::valleys::{long_dead_end, long_valley, no_way_left, one_way_valleys};
 pub use self::valleys::{road_with_gap, through_one_station, way_outside, way_struck_before};
 

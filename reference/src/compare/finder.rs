@@ -8,9 +8,9 @@ use crate::card;
 use crate::finder::laws::{fault, fault_beside_budget, fault_beside_moved, Search};
 use crate::finder::laws::{fault_beside_own_runs, fault_beside_rounds, fault_beside_same_rounds};
 use crate::finder::Outcome;
-use crate::gen::two_sides;
+use crate::gen::{struck_above, two_sides, Xorshift};
 use crate::stable::Fault;
-use crate::state::WorkState;
+use crate::state::{WorkState, LARGEST_LIMIT};
 
 /// Searches that came out as is said of them.
 #[derive(Clone, Debug, Default, PartialEq, Eq)]
@@ -118,6 +118,14 @@ fn most_nodes(n: u64) -> u32 {
     }
 }
 
+fn made_for_searches(rng: &mut Xorshift) -> WorkState {
+    if rng.percent(10) {
+        return WorkState::opened(&struck_above(), LARGEST_LIMIT);
+    }
+    let table = two_sides(rng);
+    WorkState::opened(&table, rng.pick(&[1, 2, 3, LARGEST_LIMIT]))
+}
+
 impl Session<'_> {
     /// Searches on the opened state and on states that calls have led to from it, that the
     /// following calls don't see.
@@ -136,9 +144,7 @@ impl Session<'_> {
     /// The same on a table of no sheet, made for searches.
     pub fn searches_of_no_sheet(&mut self) -> Found<()> {
         self.apart(|session| {
-            let table = two_sides(&mut session.rng);
-            let limit = session.rng.pick(&[1, 2, 3, 64]);
-            let opened = WorkState::opened(&table, limit);
+            let opened = made_for_searches(&mut session.rng);
             session.watch = Watch::new(&opened, None);
             session.put(opened);
             session.drawn_call()?;

@@ -1,7 +1,7 @@
 //! The search for the first round (W-210), beside all rounds of small tables.
 
 use reference::finder::{Outcome, Sought};
-use reference::gen::{all_tables, any_state, any_table, ring, Xorshift};
+use reference::gen::{all_tables, any_state, any_table, ring, struck_above, Xorshift};
 use reference::paper::{self, NINE_LEGS};
 use reference::rounds::rounds;
 use reference::{card, open, Calls, End, Fast, LegTable, WorkState};
@@ -99,10 +99,13 @@ fn tables_that_are_named() {
     let nine_legs = open(&NINE_LEGS, 64).state;
     let catalogue = opened(&paper::catalogue());
     let petersen = opened(&paper::petersen());
+    let struck_above = opened(&struck_above());
+    let struck_above_list = first_of(&struck_above.table()).expect("a round");
     for calls in ALL {
         for (state, nodes, list) in [
             (&nine_legs, 7, vec![4, 5, 6, 2, 3, 1]),
             (&catalogue, 5, vec![3, 1, 4, 2]),
+            (&struck_above, 8, struck_above_list.clone()),
         ] {
             let found = taken(Outcome::Found, nodes);
             assert_eq!(sought(calls, state, u32::MAX), (found, list));

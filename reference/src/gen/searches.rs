@@ -1,4 +1,4 @@
-//! Tables that leave much to a search.
+//! Tables for searches.
 
 use super::{renamed, two_way, Xorshift};
 use crate::table::{Leg, LegTable};
@@ -18,4 +18,32 @@ pub fn two_sides(rng: &mut Xorshift) -> LegTable {
         }
     }
     renamed(&two_way(n, &roads), &rng.order(n))
+}
+
+/// A table with a search of 8 nodes. If children took their table from before the run of
+/// their node, their own runs would not strike all that it had struck, and a node would be
+/// entered in vain.
+pub fn struck_above() -> LegTable {
+    let from_1_to_4 = [
+        (1, 3),
+        (1, 7),
+        (2, 1),
+        (2, 5),
+        (2, 6),
+        (3, 6),
+        (3, 7),
+        (4, 1),
+        (4, 5),
+    ];
+    let from_5_to_7 = [
+        (5, 1),
+        (5, 4),
+        (6, 2),
+        (6, 3),
+        (6, 4),
+        (6, 7),
+        (7, 2),
+        (7, 3),
+    ];
+    LegTable::from_legs(7, from_1_to_4.into_iter().chain(from_5_to_7))
 }
