@@ -1,9 +1,9 @@
-//! Searches for the first round are held to the rounds of their table, to each other and to
-//! the runs of the same calls.
+//! Searches for the first round are held to the rounds of their table and to each other,
+//! and with no other calls beside them to the runs of the same calls.
 
 use super::call::{lent_buffer, Answer, Call};
 use super::watch::{self, Watch};
-use super::{draw, Found, Session};
+use super::{draw, Found, Judge, Session};
 use crate::card;
 use crate::finder::laws::{fault, fault_beside_budget, fault_beside_moved, Search};
 use crate::finder::laws::{fault_beside_own_runs, fault_beside_rounds, fault_beside_same_rounds};
@@ -161,9 +161,13 @@ impl Session<'_> {
         self.refused_searches(opened)
     }
 
+    /// Where the fast calls take part, their search says as much as one by the runs of the
+    /// tested calls.
     fn first_search(&mut self, opened: &WorkState) -> Found<Search> {
         let search = self.search(*opened, most_nodes(opened.n))?;
-        self.hold_search(&search, fault_beside_own_runs(&search, self.tested))?;
+        if self.judge == Judge::Watches {
+            self.hold_search(&search, fault_beside_own_runs(&search, self.tested))?;
+        }
         Ok(search)
     }
 

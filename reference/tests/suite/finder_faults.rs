@@ -31,20 +31,22 @@ const ROUNDS: &str = "a search finds otherwise on a table with the same rounds";
 const OWN_RUNS: &str = "a search differs from one by the runs of the same calls";
 
 impl Fault {
-    /// What is said of the answers with this fault.
-    fn reason(self) -> &'static str {
-        match self {
+    /// What is said of the answers with this fault. Where all stations are decided, the run
+    /// of the node before has left every row with one leg: another run changes nothing.
+    fn reason(self) -> Option<&'static str> {
+        let reason = match self {
+            Fault::LastNotRun => return None,
             Fault::ChildrenFalling | Fault::HighestFirst => LATER,
             Fault::FirstChildOnly => MISSED,
             Fault::WrittenOnTheWay => WRITES,
             Fault::ListNotWritten | Fault::PreviousWritten | Fault::CountedFromZero => LIST,
             Fault::CountedAtExit | Fault::OneNodeMore | Fault::ZeroEntersOne => COUNT,
             Fault::UsedUpAtTheEnd | Fault::NoRoundAtBudget => BUDGET,
-            Fault::RootNotCounted => OWN_RUNS,
             Fault::UsedUpTooEarly => USED_UP,
             Fault::EndUsed | Fault::PlaceAndMarkUsed => MOVED,
             Fault::SingleLegsSkipped => EARLY,
             Fault::LastChildLeftOut
+            | Fault::RootNotCounted
             | Fault::DecidedTwice
             | Fault::OnlyRootRun
             | Fault::RootNotRun
@@ -54,7 +56,8 @@ impl Fault {
             | Fault::TableBeforeRun => OWN_RUNS,
             Fault::LengthUnchecked | Fault::LengthCheckedFirst => NUMBER,
             Fault::RefusalCounted => REFUSED,
-        }
+        };
+        Some(reason)
     }
 
     fn calls(self) -> impl Calls {
@@ -76,7 +79,11 @@ fn the_watch_finds_each_fault_of_searches() {
     for fault in FAULTS {
         for seed in 1..=3 {
             let found = reasons(&fault.calls(), seed, 60);
-            if !found.contains(fault.reason()) {
+            let expected = match fault.reason() {
+                Some(reason) => found.contains(reason),
+                None => found.is_empty(),
+            };
+            if !expected {
                 otherwise.push((fault, seed, found));
             }
         }
@@ -91,7 +98,8 @@ fn the_comparison_finds_each_fault_of_searches() {
         let calls = fault.calls();
         let found = (0..60).find_map(|index| compare_sheet(&calls, 1, index).err());
         let reason = found.map(|difference| difference.reason);
-        assert_eq!(reason, Some("the fast answer differs"), "{fault:?}");
+        let expected = fault.reason().map(|_| "the fast answer differs");
+        assert_eq!(reason, expected, "{fault:?}");
     }
 }
 

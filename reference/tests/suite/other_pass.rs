@@ -1,6 +1,5 @@
 //! The fast calls with passes of another kind, for what a comparison has to find.
 
-use reference::finder::first_round_by;
 use reference::hand::{self, Handled, Verdict};
 use reference::list::Checked;
 use reference::run::{run_with, Ran};
@@ -53,7 +52,7 @@ where
     }
 
     fn first_round(&self, state: &WorkState, budget: u32, list: &mut [u8]) -> Sought {
-        first_round_by(self, state, budget, list)
+        Fast.first_round(state, budget, list)
     }
 
     fn report(&self, state: &WorkState, buffer: &mut [u8]) -> Filled {

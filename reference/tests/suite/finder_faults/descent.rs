@@ -43,6 +43,8 @@ pub enum Fault {
     DecidedTwice,
     OnlyRootRun,
     RootNotRun,
+    /// A node with all stations decided is not run.
+    LastNotRun,
     /// Runs have a budget of one cycle.
     OneCycleRun,
     LargestLimit,
@@ -55,7 +57,7 @@ pub enum Fault {
     RefusalCounted,
 }
 
-pub const FAULTS: [Fault; 28] = [
+pub const FAULTS: [Fault; 29] = [
     Fault::ChildrenFalling,
     Fault::FirstChildOnly,
     Fault::LastChildLeftOut,
@@ -77,6 +79,7 @@ pub const FAULTS: [Fault; 28] = [
     Fault::DecidedTwice,
     Fault::OnlyRootRun,
     Fault::RootNotRun,
+    Fault::LastNotRun,
     Fault::OneCycleRun,
     Fault::LargestLimit,
     Fault::SmallestLimit,
@@ -205,6 +208,7 @@ impl Descent<'_> {
         let run = match self.fault {
             Fault::OnlyRootRun => way.is_empty(),
             Fault::RootNotRun => !way.is_empty(),
+            Fault::LastNotRun => way.len() < node.n as usize,
             _ => true,
         };
         let budget = match self.fault {
