@@ -16,7 +16,7 @@ use crate::table::{Leg, LegTable};
 
 pub use self::last_seed::last_seed_alone;
 pub use self::long_runs::long_runs;
-pub use self::searches::{struck_above, two_sides};
+pub use self::searches::{struck_above, struck_beside, two_sides};
 pub use self::shapes::{band, Shape, Ways, SEARCHED, SHAPES};
 pub use self::splits::{cut_at, split_budget};
 pub use self::states::any_state;
@@ -262,6 +262,12 @@ pub fn all_lists(n: usize, numbers: RangeInclusive<u8>) -> impl Iterator<Item = 
         let digits = (0..n as u32).map(|at| code / base.pow(at) % base);
         digits.map(|digit| low + digit as u8).collect()
     })
+}
+
+/// The table in which each station has these next ones.
+pub fn from_next(next: &[&'static [usize]]) -> LegTable {
+    let legs = |(at, next): (usize, &&'static [usize])| next.iter().map(move |&j| (at + 1, j));
+    LegTable::from_legs(next.len(), next.iter().enumerate().flat_map(legs))
 }
 
 /// The table with both directions of each given road.

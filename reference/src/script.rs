@@ -16,10 +16,12 @@
 //! | `L` list check | length u16, numbers one byte each |
 //! | `T` report | buffer length u16, at most 16,384 |
 //! | `B` write | buffer length u16, at most 640 |
+//! | `F` first round | node budget u32, list length u8 |
 //!
 //! The calls work on one current state, at first the blank one. The rows of a work state
 //! beyond its row count are empty. A report and a write are answered by their whole
-//! buffer, that of a write in hexadecimal.
+//! buffer, a search for the first round by its whole list; a list and the buffer of a
+//! write are in hexadecimal.
 
 use std::io::{self, Write};
 
@@ -29,7 +31,7 @@ use crate::state::{End, WorkState};
 pub const LONGEST_REPORT: u16 = 16_384;
 pub const LONGEST_WRITE: u16 = 640;
 
-/// What a buffer holds before the call.
+/// What a buffer or a list holds before the call.
 pub const FILLER: u8 = b'.';
 
 /// A script under construction.
@@ -111,6 +113,12 @@ impl Script {
         self.buffered(b'B', length, LONGEST_WRITE);
     }
 
+    pub fn first_round(&mut self, budget: u32, length: u8) {
+        self.bytes.push(b'F');
+        self.bytes.extend(budget.to_le_bytes());
+        self.bytes.push(length);
+    }
+
     fn buffered(&mut self, opcode: u8, length: usize, longest: u16) {
         let length = u16::try_from(length).expect("at most 65,535 bytes");
         assert!(length <= longest);
@@ -135,6 +143,7 @@ enum Command<'a> {
     List { numbers: &'a [u8] },
     Report { length: usize },
     Write { length: usize },
+    FirstRound { budget: u32, length: u8 },
 }
 
 /// The part of a script that has not been read yet.
@@ -187,6 +196,10 @@ impl<'a> Reader<'a> {
             },
             b'B' => Command::Write {
                 length: self.buffer_length(LONGEST_WRITE)?,
+            },
+            b'F' => Command::FirstRound {
+                budget: u32::from_le_bytes(self.array()?),
+                length: self.byte()?,
             },
             _ => return None,
         })
@@ -319,11 +332,23 @@ fn answer(
             let written = calls.write(state, &mut buffer);
             let (number, length) = (written.number, written.length);
             writeln!(out, "write {number} length {length}")?;
-            for byte in buffer {
-                write!(out, "{byte:02x}")?;
-            }
-            return writeln!(out);
+            return digits(out, &buffer);
+        }
+        Command::FirstRound { budget, length } => {
+            let mut list = vec![FILLER; usize::from(length)];
+            let sought = calls.first_round(state, budget, &mut list);
+            let (number, outcome, nodes) = (sought.number, sought.outcome.code(), sought.nodes);
+            writeln!(out, "first {number} outcome {outcome} nodes {nodes}")?;
+            return digits(out, &list);
         }
     }
     writeln!(out, "state {state}")
+}
+
+/// A line of two hexadecimal digits a byte.
+fn digits(out: &mut impl Write, bytes: &[u8]) -> io::Result<()> {
+    for byte in bytes {
+        write!(out, "{byte:02x}")?;
+    }
+    writeln!(out)
 }

@@ -1,6 +1,7 @@
 //! Tables with long runs: of those that `bin/ceiling.rs` comes to, the ones whose runs
 //! have the most steps for their number of stations, with limit 64.
 
+use super::from_next;
 use crate::table::LegTable;
 
 /// For each station the next ones.
@@ -59,8 +60,5 @@ const ROWS: [&Rows; 8] = [
 /// Tables of 2, 3, 4, 5, 6, 8, 12 and 16 stations. Their runs strike hardly more than one
 /// leg in a cycle.
 pub fn long_runs() -> [LegTable; 8] {
-    ROWS.map(|rows| {
-        let row = |(at, next): (usize, &&'static [usize])| next.iter().map(move |&j| (at + 1, j));
-        LegTable::from_legs(rows.len(), rows.iter().enumerate().flat_map(row))
-    })
+    ROWS.map(from_next)
 }

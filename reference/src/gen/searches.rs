@@ -1,6 +1,6 @@
 //! Tables for searches.
 
-use super::{renamed, two_way, Xorshift};
+use super::{from_next, renamed, two_way, Xorshift};
 use crate::table::{Leg, LegTable};
 
 /// A table of 5 to 8 stations in two groups, with most roads across and few inside. If the
@@ -24,26 +24,32 @@ pub fn two_sides(rng: &mut Xorshift) -> LegTable {
 /// their node, their own runs would not strike all that it had struck, and a node would be
 /// entered in vain.
 pub fn struck_above() -> LegTable {
-    let from_1_to_4 = [
-        (1, 3),
-        (1, 7),
-        (2, 1),
-        (2, 5),
-        (2, 6),
-        (3, 6),
-        (3, 7),
-        (4, 1),
-        (4, 5),
-    ];
-    let from_5_to_7 = [
-        (5, 1),
-        (5, 4),
-        (6, 2),
-        (6, 3),
-        (6, 4),
-        (6, 7),
-        (7, 2),
-        (7, 3),
-    ];
-    LegTable::from_legs(7, from_1_to_4.into_iter().chain(from_5_to_7))
+    from_next(&[
+        &[3, 7],
+        &[1, 5, 6],
+        &[6, 7],
+        &[1, 5],
+        &[1, 4],
+        &[2, 3, 4, 7],
+        &[2, 3],
+    ])
+}
+
+/// A table with a search of 12 nodes. If a decision struck the other legs to the next
+/// station too, a run would start with fewer legs and leave more, and a node would be
+/// entered in vain.
+pub fn struck_beside() -> LegTable {
+    from_next(&[
+        &[2],
+        &[9],
+        &[5, 11],
+        &[1, 3, 7],
+        &[8, 11],
+        &[1, 4, 10],
+        &[10, 11],
+        &[3, 6, 7],
+        &[6, 8, 10],
+        &[4, 11],
+        &[5, 6],
+    ])
 }

@@ -34,7 +34,7 @@ fn good() -> WorkState {
     WorkState::opened(&ring(5), 64)
 }
 
-fn bad_states() -> Vec<WorkState> {
+pub fn bad_states() -> Vec<WorkState> {
     let mut states = bad_counts();
     states.extend(stray_legs());
     for limit in [0, 65].into_iter().chain(WIDE_NUMBERS) {

@@ -3,6 +3,7 @@
 mod bad_states;
 mod ceilings;
 mod chains;
+mod finder;
 mod islands;
 mod lines;
 mod lists;
@@ -67,6 +68,13 @@ pub fn turns() -> Script {
 pub fn stable() -> Script {
     let mut script = Script::default();
     stable::add(&mut script);
+    script
+}
+
+/// The section of searches for the first round alone.
+pub fn finder() -> Script {
+    let mut script = Script::default();
+    finder::add(&mut script);
     script
 }
 

@@ -7,7 +7,7 @@
 //! that is written of it. The last states are made up: they say stable from the start,
 //! and a step does change them, so it is the opening that counts.
 
-mod calls;
+pub(super) mod calls;
 
 use self::calls::{calls, drawn, needs_reopening, strikes_amid, Call, Fits};
 use crate::fast;

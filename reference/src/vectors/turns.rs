@@ -5,7 +5,7 @@
 //! of turns. A row has at least two of them.
 
 use crate::fast;
-use crate::gen::{band, cut_at, long_runs, plant_round, Family, Xorshift};
+use crate::gen::{band, cut_at, from_next, long_runs, plant_round, Family, Xorshift};
 use crate::paper;
 use crate::program::LIMIT;
 use crate::script::Script;
@@ -55,7 +55,7 @@ fn at_rest(table: &LegTable) -> WorkState {
 
 /// Its run strikes 16 of 23 legs and ends with none at step 17; a cycle has 9.
 fn none_in_second_cycle() -> LegTable {
-    let next: [&[usize]; 7] = [
+    from_next(&[
         &[2, 3, 4],
         &[1, 3, 4, 7],
         &[1, 4],
@@ -63,9 +63,7 @@ fn none_in_second_cycle() -> LegTable {
         &[1, 3, 6],
         &[1, 2, 4, 5],
         &[2, 4],
-    ];
-    let legs = |(at, next): (usize, &&'static [usize])| next.iter().map(move |&j| (at + 1, j));
-    LegTable::from_legs(7, next.iter().enumerate().flat_map(legs))
+    ])
 }
 
 /// The steps to the end. The plain run of many stations takes long.

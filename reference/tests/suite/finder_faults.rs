@@ -10,11 +10,12 @@ use reference::finder::laws::{fault, fault_beside_budget, fault_beside_moved, Se
 use reference::finder::laws::{fault_beside_own_runs, fault_beside_rounds};
 use reference::finder::{Outcome, Sought};
 use reference::rounds::rounds;
-use reference::{card, paper, Calls, Fast, WorkState};
+use reference::{card, paper, vectors, Calls, Fast, WorkState};
 
 use self::descent::{Fault, FAULTS};
 use crate::opened;
 use crate::other_searches::OtherSearches;
+use crate::scripts::answers;
 
 const NUMBER: &str = "a search has another number or outcome than its state and list";
 const WRITES: &str = "a search without a round writes to the list";
@@ -100,6 +101,20 @@ fn the_comparison_finds_each_fault_of_searches() {
         let reason = found.map(|difference| difference.reason);
         let expected = fault.reason().map(|_| "the fast answer differs");
         assert_eq!(reason, expected, "{fault:?}");
+    }
+}
+
+/// With a fault a search may have many more nodes than any of the vectors.
+#[test]
+fn the_vectors_tell_each_fault_of_searches() {
+    let script = vectors::finder();
+    let sound = answers(&Fast, script.bytes());
+    for fault in FAULTS {
+        let calls = OtherSearches(move |state: &WorkState, budget: u32, list: &mut [u8]| {
+            fault.first_round(state, budget.min(1_000), list)
+        });
+        let told = answers(&calls, script.bytes()) != sound;
+        assert_eq!(told, fault.reason().is_some(), "{fault:?}");
     }
 }
 

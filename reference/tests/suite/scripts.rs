@@ -27,6 +27,9 @@ fn answers_to_each_command() {
     script.report(3);
     script.write(6);
     script.write(3);
+    script.first_round(3, 3);
+    script.first_round(4, 3);
+    script.first_round(4, 2);
     let expected = "\
 sweep 7 removed 0
 state n 0 limit 0 place 0 mark 0 end open legs 0
@@ -51,6 +54,12 @@ write 0 length 4
 030000002e2e
 write 10 length 0
 2e2e2e
+first 0 outcome 3 nodes 3
+2e2e2e
+first 0 outcome 1 nodes 4
+020301
+first 9 outcome 0 nodes 0
+2e2e
 ";
     assert_eq!(text(script.bytes()), expected);
 }
@@ -155,10 +164,16 @@ fn again_stops_where_no_state_was_made() {
 fn unknown_and_cut_commands_stop() {
     assert_eq!(text(b""), "");
     assert_eq!(text(b"XSS"), "stop\n");
-    let mut script = Script::default();
-    script.open(64, &[2, 0, 0]);
-    for length in 1..script.bytes().len() {
-        assert_eq!(text(&script.bytes()[..length]), "stop\n");
+    let calls: [fn(&mut Script); 2] = [
+        |script| script.open(64, &[2, 0, 0]),
+        |script| script.first_round(9, 2),
+    ];
+    for call in calls {
+        let mut script = Script::default();
+        call(&mut script);
+        for length in 1..script.bytes().len() {
+            assert_eq!(text(&script.bytes()[..length]), "stop\n");
+        }
     }
 }
 

@@ -8,7 +8,8 @@ use std::collections::BTreeSet;
 
 use reference::{vectors, Fast, Plain, Telling};
 
-use self::rows::{rows, Call, Part, Row};
+use self::rows::{rows, Row};
+use crate::parts::{Call, Part};
 use crate::scripts::answers;
 
 const AT_REST: &str = " place 0 mark 0 end open ";
