@@ -103,6 +103,14 @@ fn print_length(name: &[u8], filled: Filled) {
     print_pair(name, answer.number() as u64, b" length ", filled.len as u64);
 }
 
+// A line of bytes in hexadecimal.
+fn print_bytes(bytes: &[u8]) {
+    let mut line = [0u8; LINE];
+    let at = put_bytes(&mut line, 0, bytes);
+    let at = put(&mut line, at, b"\n");
+    print_line(line, at);
+}
+
 fn print_report(work: Work, buf: &mut [u8]) {
     print_length(b"report ", report::report(work, buf));
     print(buf);
@@ -111,10 +119,7 @@ fn print_report(work: Work, buf: &mut [u8]) {
 
 fn print_written(work: Work, buf: &mut [u8]) {
     print_length(b"write ", sheet::write(work, buf));
-    let mut line = [0u8; LINE];
-    let at = put_bytes(&mut line, 0, buf);
-    let at = put(&mut line, at, b"\n");
-    print_line(line, at);
+    print_bytes(buf);
 }
 
 // A report or a written sheet, by its opcode. The whole buffer is printed, so that a byte past what is filled that has changed is
@@ -124,4 +129,18 @@ pub fn print_filled(opcode: u8, work: Work, buf: &mut [u8]) {
         b'T' => print_report(work, buf),
         _ => print_written(work, buf),
     }
+}
+
+// The first round. The whole list is printed, so that a byte that has changed where none is found is seen.
+pub fn print_first(work: Work, budget: u32, list: &mut [u8]) {
+    let sought = finder::first_round(work, budget, list);
+    let answer = sought.answer;
+    let outcome = sought.outcome;
+    let mut line = [0u8; LINE];
+    let at = put_field(&mut line, 0, b"first ", answer.number() as u64);
+    let at = put_field(&mut line, at, b" outcome ", outcome.code() as u64);
+    let at = put_field(&mut line, at, b" nodes ", sought.nodes as u64);
+    let at = put(&mut line, at, b"\n");
+    print_line(line, at);
+    print_bytes(list);
 }

@@ -10,6 +10,7 @@
 //   L  list check  length u16, numbers one byte each
 //   T  report      buffer length u16, at most 16,384
 //   B  write       buffer length u16, at most 640
+//   F  first       node budget u32, list length u8
 //
 // The calls work on one current state, at first the blank one. The rows of a work state beyond its row count are empty. An unknown
 // or cut command, or an argument out of its range, is answered by `stop`, and ends the script.
@@ -22,6 +23,7 @@ mod step;
 use answer::print_called;
 use answer::print_checked;
 use answer::print_filled;
+use answer::print_first;
 use answer::print_ran;
 use circuit::Work;
 use filter::Called;
@@ -33,6 +35,7 @@ use made::make;
 use read::read_u16;
 use read::read_u32;
 use read::read_u64;
+use read::wide;
 use step::Step;
 use step::stop;
 ghost use denote.Ref.{now};
@@ -48,6 +51,9 @@ const REPORT: usize = 16384;
 
 // The longest buffer of a written sheet.
 const SHEET: usize = 640;
+
+// Room for a list of the finder whose length takes one byte.
+const LIST: usize = 256;
 
 // A rule called by hand by a command of so many bytes, and its answer.
 fn by_hand(name: &[u8], called: Called, taken: usize) -> Step
@@ -127,6 +133,18 @@ fn write(part: &[u8], work: Work) -> Step
     fill(part, work, &mut buf)
 }
 
+fn first_round(part: &[u8], work: Work) -> Step
+    ensures { λ r. ⌜ r .taken ≤ length (now (part .entry)) ⌝ }
+{
+    if part.len() < 6 {
+        return stop(work);
+    }
+    let mut list = [b'.'; LIST];
+    let len = wide(part[5]) as usize;
+    print_first(work, read_u32(part, 1), &mut list[0..len]);
+    Step { taken: 6, work }
+}
+
 fn command(part: &[u8], work: Work) -> Step
     requires { ⌜ 1 ≤ length (now part) ⌝ }
     ensures { λ r. ⌜ r .taken ≤ length (now (part .entry)) ⌝ }
@@ -141,6 +159,7 @@ fn command(part: &[u8], work: Work) -> Step
         b'L' => check_list(part, work),
         b'T' => report(part, work),
         b'B' => write(part, work),
+        b'F' => first_round(part, work),
         _ => stop(work),
     }
 }

@@ -40,6 +40,7 @@ pub fn script() -> Script {
     ceilings::add(&mut script);
     turns::add(&mut script);
     stable::add(&mut script);
+    finder::add(&mut script);
     script
 }
 

@@ -201,7 +201,7 @@ fn vectors_are_answered_alike() {
 fn vectors_draw_every_number() {
     let script = vectors::script();
     let text = String::from_utf8(answers(&Fast, script.bytes())).expect("text");
-    let numbers: [(&str, &[u8]); 8] = [
+    let numbers: [(&str, &[u8]); 9] = [
         ("open", &[0, 1, 2, 3, 4, 5, 6]),
         ("sweep", &[0, 7]),
         ("chain", &[0, 7]),
@@ -210,6 +210,7 @@ fn vectors_draw_every_number() {
         ("list", &[0, 7, 9]),
         ("report", &[0, 7, 10]),
         ("write", &[0, 7, 10]),
+        ("first", &[0, 7, 9]),
     ];
     for (call, numbers) in numbers {
         for number in numbers {
