@@ -154,6 +154,7 @@ impl Session<'_> {
         })
     }
 
+    /// Each state that calls have led to has all rounds of the opened one.
     fn searches(&mut self, opened: &WorkState, led_to: [WorkState; 2]) -> Found<()> {
         let whole = self.first_search(opened)?;
         self.other_budgets(&whole)?;
@@ -171,15 +172,21 @@ impl Session<'_> {
         Ok(search)
     }
 
+    /// Is a search like this one made, too? On many stations it takes long, so that there is
+    /// a chance in percent.
+    fn takes_part(&mut self, before: &Search, chance: usize) -> bool {
+        before.state.n <= SMALL || self.rng.percent(chance)
+    }
+
     /// Fewer than the nodes of the search before, just as many, and more.
     fn other_budgets(&mut self, before: &Search) -> Found<()> {
         let nodes = before.sought.nodes;
-        let few = [0, 1, nodes / 2, nodes - 1];
-        let many = [nodes, nodes + 1, 1_000_000, u32::MAX];
+        let few = [0, 1, nodes / 2, nodes - 1].into_iter();
+        // Where the search before is not whole, these could take long.
+        let many = [nodes, nodes + 1, 1_000_000, u32::MAX].into_iter();
         let whole = before.is_whole();
-        for budget in few.into_iter().chain(many.into_iter().filter(|_| whole)) {
-            // A search on many stations takes long.
-            if before.state.n <= SMALL || self.rng.percent(40) {
+        for budget in few.chain(many.filter(|_| whole)) {
+            if self.takes_part(before, 40) {
                 let search = self.search(before.state, budget)?;
                 self.hold_search(&search, fault_beside_budget(&search, before))?;
             }
@@ -197,8 +204,7 @@ impl Session<'_> {
 
         let drawn = self.rng.between(1, 64) as u64;
         for limit in [1, 2, 3, 64, drawn] {
-            // A search on many stations takes long.
-            if opened.n <= SMALL || self.rng.percent(30) {
+            if self.takes_part(before, 30) {
                 let search = self.search(WorkState { limit, ..opened }, before.budget)?;
                 self.hold_search(&search, fault_beside_same_rounds(&search, before))?;
                 let other_nodes = search.sought.nodes != before.sought.nodes;
@@ -222,10 +228,7 @@ impl Session<'_> {
         let spoilt = draw::spoilt(&mut self.rng, opened);
         for length in [0, 1, n - 1, n + 1, 64 + n] {
             for state in [*opened, spoilt] {
-                // One station less than two is one.
-                if length != n {
-                    self.search_into(state, budget, length)?;
-                }
+                self.search_into(state, budget, length)?;
             }
         }
         self.search_into(spoilt, budget, n)?;
