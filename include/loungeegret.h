@@ -7,7 +7,8 @@
  * 0, and what it points to is initialised, also where the call only writes it. What a call may write overlaps nothing else that
  * is lent to the same call. While the call runs, nothing else writes what is lent, and nothing else reads what it may write.
  *
- * The library has no state of its own: calls on different states may run at the same time, in any threads.
+ * The library has no state of its own: calls on different states may run at the same time, in any threads, and so may calls that
+ * only read the same one, which take it as const.
  */
 #ifndef LOUNGEEGRET_H
 #define LOUNGEEGRET_H
@@ -120,8 +121,8 @@ uint32_t loungeegret_pass(uint64_t *state, size_t state_length, size_t seed, uin
  * Short turns: with a smaller budget, where the end is still LOUNGEEGRET_OPEN the budget is used up, and the same call again goes on
  * from there. Turns leave the words that one run with the sum of their budgets leaves, what they write to `*steps` and `*removed`
  * adds up to what it writes, and each answers the number that it answers; a run with budget 0 changes no word (proved: turns-add).
- * List checks, reports and written sheets may come between turns, a sweep, a chain step or a pass by hand may not. Longer turns are
- * cheaper: what a run learns of passes that change nothing is forgotten where a turn ends.
+ * List checks, searches, reports and written sheets may come between turns, a sweep, a chain step or a pass by hand may not. Longer
+ * turns are cheaper: what a run learns of passes that change nothing is forgotten where a turn ends.
  *
  * What stable means: after a taken opening and any calls on the same words, where the end is LOUNGEEGRET_STABLE, no sweep, chain
  * step or pass strikes anything more, with any seed. Each answers LOUNGEEGRET_TAKEN, or LOUNGEEGRET_STRAY_SEED where the seed is
@@ -130,8 +131,8 @@ uint32_t loungeegret_pass(uint64_t *state, size_t state_length, size_t seed, uin
  * stable-words). So does a run from the sheet of what is left, opened with the same limit (stable-after).
  *
  * Stable does not promise a round, and legs that no round drives may be left: the Petersen graph, 10 stations and 30 legs, ends
- * stable after 12 steps with nothing removed, and has no round (no-promise). Of words that say a stable end but came from no
- * opening, nothing of this is said.
+ * stable after 12 steps with nothing removed, and has no round (no-promise). Whether there is one, loungeegret_first_round tells. Of
+ * words that say a stable end but came from no opening, nothing of this is said.
  */
 uint32_t loungeegret_run(uint64_t *state, size_t state_length, uint32_t budget,
                          uint32_t *steps, uint32_t *removed);
@@ -142,6 +143,45 @@ uint32_t loungeegret_run(uint64_t *state, size_t state_length, uint32_t budget,
  */
 uint32_t loungeegret_check_list(const uint64_t *state, size_t state_length,
                                 const uint8_t *list, size_t list_length, uint8_t *yes);
+
+enum loungeegret_outcome {
+    LOUNGEEGRET_REFUSED = 0,  /* the call is refused, and its number says why */
+    LOUNGEEGRET_FOUND = 1,    /* the list has the first round */
+    LOUNGEEGRET_NO_ROUND = 2, /* the table has no round */
+    LOUNGEEGRET_USED_UP = 3   /* the budget is used up: there may be a round or none */
+};
+
+/* A search at 64 stations takes fewer bytes of stack than this (measured, held by a test), and at fewer stations less. */
+enum {
+    LOUNGEEGRET_FIRST_ROUND_STACK = 196608
+};
+
+/*
+ * Looks for the first round of the state's table: the one whose list of next stations comes first when lists are compared from
+ * station 1 on. Place, mark and end of the state are not used, and the state is left as it is. The list that is lent has n bytes;
+ * where the round is found its numbers are written there, as loungeegret_check_list reads them, and otherwise the list keeps its
+ * contents. `*outcome` is one of the outcomes above, and `*nodes` the number of nodes that were entered.
+ *
+ * A node is a table in which some stations, from station 1 on, are decided: each has one leg left. At first none is. A node is run
+ * with LOUNGEEGRET_FULL_BUDGET and, unless that ends none, the nodes below it decide the next station for each leg that the run left
+ * it, in rising order.
+ *
+ * LOUNGEEGRET_FOUND: the list is that of the first round, and passes the list check. LOUNGEEGRET_NO_ROUND: the table has none.
+ * LOUNGEEGRET_USED_UP: `budget` nodes were entered and another is due; with budget 0 it always is. The same call with a larger
+ * budget starts from the beginning, and never changes a found list, a no-round or their number of nodes (proved: finds,
+ * node-budgets). A call is refused for a bad state or, after that, where the list has not n bytes; then `*outcome` is
+ * LOUNGEEGRET_REFUSED and `*nodes` 0.
+ *
+ * After a taken opening and any calls on the same words, whatever they struck and however a run ended, the round that is found is
+ * the first of the opened table, and no round is said only where the opened table has none (first-after; of the words,
+ * in-sequence). So the list is the same before a run and after it; of the number of nodes that is not said.
+ *
+ * Which budget: a search that finds enters at least n + 1 nodes (finds), and on most tables that were measured hardly more. But
+ * there are tables where 100000 are not enough, among them grids whose stations are numbered at random, and a node can take as long
+ * as a run. So choose a budget that can be waited for, and treat LOUNGEEGRET_USED_UP as an answer.
+ */
+uint32_t loungeegret_first_round(const uint64_t *state, size_t state_length, uint32_t budget,
+                                 uint8_t *list, size_t list_length, uint32_t *outcome, uint32_t *nodes);
 
 /*
  * Writes the station lines to the start of the buffer; bytes after them keep their contents. `*length` is their length. A refused
