@@ -1,7 +1,7 @@
 /*
  * Prunes a sheet, the one in the file that is named or else the sheet of nine legs. Prints how the run ended and, unless that is
- * none, the station lines; where a second file is named, the sheet of what is left goes there. The exit status is that of
- * ./prune: 0 pruned, 1 refused, 2 something failed, 3 no round.
+ * none, the station lines and the first round; where a second file is named, the sheet of what is left goes there. The exit status
+ * is that of ./prune: 0 pruned, 1 refused, 2 something failed, 3 the end none.
  */
 #include <stdio.h>
 
@@ -18,6 +18,11 @@ static const uint8_t nine_legs[] = {
 };
 
 static const char *const words[] = {"open", "stable", "none"};
+
+/* What the search for a round may take, in nodes. */
+enum {
+    NODE_BUDGET = 10000
+};
 
 static int fail(const char *what)
 {
@@ -53,6 +58,29 @@ static int send_back(const uint64_t *state, const char *name)
     return 0;
 }
 
+/* Prints the first round, as the next station of each station, station 1 first. */
+static int print_round(const uint64_t *state)
+{
+    uint8_t list[64] = {0};
+    size_t n = state[LOUNGEEGRET_N];
+    uint32_t outcome = LOUNGEEGRET_REFUSED, nodes = 0;
+
+    /* What the run struck makes no difference: it is the first round of the opened sheet. */
+    if (loungeegret_first_round(state, LOUNGEEGRET_STATE_WORDS, NODE_BUDGET, list, n, &outcome, &nodes) != LOUNGEEGRET_TAKEN)
+        return fail("the search is refused");
+    if (outcome == LOUNGEEGRET_FOUND) {
+        printf("round");
+        for (size_t i = 0; i < n; i++)
+            printf(" %u", (unsigned)list[i]);
+        putchar('\n');
+    } else if (outcome == LOUNGEEGRET_NO_ROUND) {
+        puts("no round");
+    } else {
+        printf("round not found within %u nodes\n", (unsigned)nodes);
+    }
+    return 0;
+}
+
 static int prune(const uint8_t *sheet, size_t sheet_length, const char *struck)
 {
     uint64_t state[LOUNGEEGRET_STATE_WORDS] = {0};
@@ -78,6 +106,8 @@ static int prune(const uint8_t *sheet, size_t sheet_length, const char *struck)
     if (loungeegret_report(state, LOUNGEEGRET_STATE_WORDS, text, sizeof text, &length) != LOUNGEEGRET_TAKEN)
         return fail("the report is refused");
     fwrite(text, 1, length, stdout);
+    if (print_round(state) != 0)
+        return 2;
     return struck ? send_back(state, struck) : 0;
 }
 

@@ -1,6 +1,6 @@
 //! Prunes a sheet, the one in the file that is named or else the sheet of nine legs. Prints how the run ended and, unless that is
-//! none, the station lines; where a second file is named, the sheet of what is left goes there. The exit status is that of
-//! ./prune: 0 pruned, 1 refused, 2 something failed, 3 no round.
+//! none, the station lines and the first round; where a second file is named, the sheet of what is left goes there. The exit status
+//! is that of ./prune: 0 pruned, 1 refused, 2 something failed, 3 the end none.
 use std::ffi::OsString;
 use std::fs::{self, File};
 use std::io::{self, Read, Write};
@@ -24,6 +24,15 @@ unsafe extern "C" {
         steps: &mut u32,
         removed: &mut u32,
     ) -> u32;
+    fn loungeegret_first_round(
+        state: *const u64,
+        state_length: usize,
+        budget: u32,
+        list: *mut u8,
+        list_length: usize,
+        outcome: &mut u32,
+        nodes: &mut u32,
+    ) -> u32;
     fn loungeegret_report(
         state: *const u64,
         state_length: usize,
@@ -41,12 +50,17 @@ unsafe extern "C" {
 }
 
 const TAKEN: u32 = 0;
+const FOUND: u32 = 1;
+const NO_ROUND: u32 = 2;
+const N: usize = 64;
 const END: usize = 68;
 const STATE_WORDS: usize = 69;
 const SHEET_MOST: u64 = 1153;
 const TEXT_MOST: usize = 11776;
 const WRITTEN_MOST: usize = 577;
 const FULL_BUDGET: u32 = 300_000;
+/// What the search for a round may take, in nodes.
+const NODE_BUDGET: u32 = 10_000;
 const WORDS: [&str; 3] = ["open", "stable", "none"];
 
 #[rustfmt::skip]
@@ -121,11 +135,35 @@ fn prune(sheet: &[u8], out: &mut impl Write, struck: Option<OsString>) -> io::Re
         return Err(io::Error::other("the report is refused"));
     }
     out.write_all(&text[..length])?;
+    writeln!(out, "{}", round_line(&state)?)?;
     out.flush()?;
     if let Some(name) = struck {
         fs::write(name, struck_sheet(&state)?)?;
     }
     Ok(0)
+}
+
+/// The first round, as the next station of each station, station 1 first.
+fn round_line(state: &[u64]) -> io::Result<String> {
+    let mut list = vec![0; state[N] as usize];
+    let (mut outcome, mut nodes) = (0, 0);
+    // What the run struck makes no difference: it is the first round of the opened sheet.
+    // SAFETY: as above.
+    let number = unsafe {
+        let (words, bytes, n) = (state.as_ptr(), list.as_mut_ptr(), list.len());
+        let (outcome, nodes) = (&mut outcome, &mut nodes);
+        loungeegret_first_round(words, state.len(), NODE_BUDGET, bytes, n, outcome, nodes)
+    };
+    if number != TAKEN {
+        return Err(io::Error::other("the search is refused"));
+    }
+    Ok(match outcome {
+        FOUND => list
+            .iter()
+            .fold("round".into(), |line, next| format!("{line} {next}")),
+        NO_ROUND => "no round".into(),
+        _ => format!("round not found within {nodes} nodes"),
+    })
 }
 
 /// The sheet of what is left.
