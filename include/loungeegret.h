@@ -153,7 +153,7 @@ enum loungeegret_outcome {
 
 /* A search at 64 stations takes fewer bytes of stack than this (measured, held by a test), and at fewer stations less. */
 enum {
-    LOUNGEEGRET_FIRST_ROUND_STACK = 196608
+    LOUNGEEGRET_FIRST_ROUND_STACK = 65536
 };
 
 /*

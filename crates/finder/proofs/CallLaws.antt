@@ -96,6 +96,7 @@ module _ (w : Work) (g : Good w) (long : length (rowsOf w) ≡ 64) where
         record {
           found = λ _. record { round = L .round; first = λ y r. before (w .n) (choiceOf (whole w .list)) y (whole-tells .first f y r) };
           passes = λ _. round-list w (whole w .list) g L;
+          found-back = λ _ _ _. refl;
           none = λ e. found-none e;
           none-back = λ e _. absurd (e (choiceOf (whole w .list)) (L .round));
           used = λ e. found-used e;
@@ -110,6 +111,7 @@ module _ (w : Work) (g : Good w) (long : length (rowsOf w) ≡ 64) where
         record {
           found = λ e. found-none (sym e);
           passes = λ e. found-none (sym e);
+          found-back = λ h r _. absurd (whole-tells .none f h r);
           none = λ _. (whole-tells .none f, h);
           none-back = λ _ _. refl;
           used = λ e. none-used e;
@@ -124,6 +126,7 @@ module _ (w : Work) (g : Good w) (long : length (rowsOf w) ≡ 64) where
         record {
           found = λ e. found-used (sym e);
           passes = λ e. found-used (sym e);
+          found-back = λ _ _ e. absurd (let z : ⊥ = omega (arith, e, h) in z);
           none = λ e. none-used (sym e);
           none-back = λ _ e. absurd (let z : ⊥ = omega (arith, e, h) in z);
           used = λ _. (h, omega arith);

@@ -26,6 +26,8 @@ pub record Finds (w : Work) (b : ℕ) (r : Sought) (list : List ℕ) : Type 0 wh
   -- found: the list names the first round of the table, and passes the list check on the given state
   pub found : r .outcome ≡ Found → First (w .n) (rowsOf w) (choiceOf list)
   pub passes : r .outcome ≡ Found → checkCall w list .yes ≡ true
+  -- and where the table has a round and the budget is enough, one is found
+  pub found-back : (h : ℕ → ℕ) → RoundOf (w .n) (rowsOf w) h → enough w ≤ b → r .outcome ≡ Found
   -- no round: exactly when the table has none and no node is left
   pub none : r .outcome ≡ NoRound → NoneOf (w .n) (rowsOf w) × (enough w ≤ b)
   pub none-back : NoneOf (w .n) (rowsOf w) → enough w ≤ b → r .outcome ≡ NoRound

@@ -11,8 +11,8 @@ use crate::state::WorkState;
 use crate::table::LegTable;
 use crate::words::{to_words, Words, N};
 
-/// No search takes so many bytes of stack.
-const STACK_BYTES: usize = 192 * 1024;
+/// No search takes so many bytes of stack; the header says the same.
+const STACK_BYTES: usize = 64 * 1024;
 
 /// The words of the lent stack, aligned as the ABI asks. A search that needs more than
 /// `STACK_BYTES` still has room, so that its need is told.
@@ -107,4 +107,5 @@ fn a_search_takes_less_stack_than_is_said() {
     }
     assert!(found > 20, "{found} rounds found");
     assert!(most < STACK_BYTES, "{most} bytes of stack");
+    assert!(super::header_has("FIRST_ROUND_STACK", STACK_BYTES));
 }
