@@ -1,7 +1,7 @@
 -- The call: its cases, and W-210's claims of it. Assumes nothing.
 use mathlib.Core.Path.{_≡_, refl, sym, ap, _∙_, subst}
 use mathlib.Core.Logic.{⊎-elim}
-use mathlib.Core.Bool.{Bool, cond, true, false}
+use mathlib.Core.Bool.{cond, true, false}
 use mathlib.Core.List.{List}
 use Prim.Native.Nat.{ℕ, _-_, _≤_, _<_, zero-le}
 use native.Mathlib.Omega.{arith}
@@ -26,7 +26,7 @@ use Rattle.finder.specs.Claims.{enough, Finds, NodeBudgets}
 use Rattle.finder.specs.inner.Parts.{Within, within, given}
 use Rattle.finder.proofs.NodeLaws.{root}
 use Rattle.finder.proofs.SearchLaws.{Tells, some-node, search-tells, search-deep, before}
-use Rattle.finder.proofs.WithinLaws.{within-all, within-cases, nodes-most}
+use Rattle.finder.proofs.WithinLaws.{fits?, within-all, within-off, within-cases, nodes-most}
 
 -- ---- the call by cases: what it hands back, with the list that it leaves
 
@@ -162,10 +162,7 @@ unfolding Kept
 taken-kept w b old = (
   omega arith,
   within-cases (λ (p : Within). (p .outcome ≡ Found → ⊥) → p .list ≡ old) b (whole w) old (λ _ _ e. absurd (e refl)) (λ _ _ _. refl) (λ _ _. refl),
-  λ c l. within-cases (λ (p : Within). (p .outcome ≡ UsedUp → ⊥) → taken c (within c (whole w) old) ≡ taken b p) b (whole w) old
-      (λ h f _. larger-taken w b c old l h ∙ ap (taken b) (within-all b (whole w) old h ∙ ap (λ (x : Bool). record { outcome = cond x Found NoRound; left = b - enough w; list = cond x (whole w .list) old }) f))
-      (λ h f _. larger-taken w b c old l h ∙ ap (taken b) (within-all b (whole w) old h ∙ ap (λ (x : Bool). record { outcome = cond x Found NoRound; left = b - enough w; list = cond x (whole w .list) old }) f))
-      (λ _ e. absurd (e refl)),
+  λ c l no. ⊎-elim (larger-taken w b c old l) (λ h. absurd (no (ap (λ (p : Within). p .outcome) (within-off b (whole w) old h)))) (fits? (enough w) b),
 )
 
 refused-kept : (w : Work) (b : ℕ) (old : List ℕ) (a : Answer) → Kept w b old (record { sought = refused a; list = old }) (λ _. record { sought = refused a; list = old })

@@ -1,7 +1,7 @@
 -- What a node gives within a budget, on plain values: each way out, and the loop over the children. Assumes nothing.
 use mathlib.Core.Path.{_≡_, refl, sym, ap, ap₂, _∙_, subst}
 use mathlib.Core.Logic.{⊎-elim}
-use mathlib.Core.Bool.{cond, true, false}
+use mathlib.Core.Bool.{Bool, cond, true, false}
 use mathlib.Core.List.{List}
 use Prim.Native.Nat.{ℕ, zero, suc, _-_, _^_, _<_}
 use native.Mathlib.Omega.{arith}
@@ -14,7 +14,7 @@ use Rattle.bitset.proofs.BoolLaws.{cases, and-l}
 use Rattle.bitset.proofs.LeastLaws.{has-clear}
 use Rattle.circuit.specs.declared.state.Work.{Work}
 use Rattle.circuit.specs.Legs.{leg}
-use Rattle.circuit.specs.State.{rowsOf}
+use Rattle.circuit.specs.State.{isNone, rowsOf}
 use Rattle.circuit.specs.Check.{checkCall}
 use Rattle.finder.specs.declared.outcome.Outcome.the-variants.{Found, NoRound, UsedUp}
 use Rattle.finder.specs.declared.outcome.Part.{Part}
@@ -51,34 +51,38 @@ module _ (n limit : ℕ) where
       enter : (s : Search) → searchFrom u w ≡ entered s → within (b - 1) s old ≡ within b (searchFrom u w) old
       enter s e = sym (ap (λ (x : Search). within b x old) e ∙ within-enter b s old some)
 
-      pub node-end : (left : List ℕ) → Settles w true left → record { outcome = NoRound; left = b - 1; list = old } ≡ within b (searchFrom u w) old
-      node-end left S = sym (within-nothing (b - 1) old) ∙ enter nothing (search-end w u (sym (S .ends)))
+      module _ (none : Bool) (t : List ℕ) (S : Settles w none t) where
+        pub node-end : none ≡ true → record { outcome = NoRound; left = b - 1; list = old } ≡ within b (searchFrom u w) old
+        node-end e = sym (within-nothing (b - 1) old) ∙ enter nothing (search-end w u (sym (S .ends) ∙ e))
 
-      module _ (t : List ℕ) (S : Settles w false t) where
-        abbrev v : Work
-        v = stableAt n limit t
+        module _ (e : none ≡ false) where
+          abbrev v : Work
+          v = stableAt n limit t
 
-        pub node-leaf : u ≡ 0
-            → record { outcome = cond (leaf v .found) Found NoRound; left = b - 1; list = cond (leaf v .found) (leaf v .list) old } ≡ within b (searchFrom u w) old
-        node-leaf z =
-            let m = leaf-nodes v in
-            let e : b - 1 ≡ b - 1 - leaf v .nodes = omega (arith, m) in
-            ap (λ (x : ℕ). record { outcome = cond (leaf v .found) Found NoRound; left = x; list = cond (leaf v .found) (leaf v .list) old }) e
-            ∙ sym (within-all (b - 1) (leaf v) old (omega (arith, m)))
-            ∙ enter (leaf v) (ap (λ (x : ℕ). searchFrom x w) z ∙ search-leaf w (sym (S .ends)) ∙ ap (λ (x : Work). entered (leaf x)) (S .leaves refl))
+          on : isNone (settled w .end) ≡ false
+          on = sym (S .ends) ∙ e
 
-        pub node-children : 0 < u → within (b - 1) (below u t (n - u) (row t (n - u))) old ≡ within b (searchFrom u w) old
-        unfolding leg decided
-        node-children h = enter (below u t (n - u) (row t (n - u))) (go u h)
-          where
-            go : (u : ℕ) → 0 < u → searchFrom u w ≡ entered (below u t (n - u) (row t (n - u)))
-            go zero l = absurd (let x : ⊥ = omega (arith, l) in x)
-            go (suc u) l =
-                let e : u ≡ suc u - 1 = omega arith in
-                let d = n - suc u in
-                search-below w u (sym (S .ends))
-                ∙ ap (λ (x : Work). entered (children (λ j. searchFrom u (decided x d j)) (leg (rowsOf x) d) 64 0)) (S .leaves refl)
-                ∙ ap (λ (k : ℕ). entered (children (λ j. searchFrom k (child t d j)) (has (row t d)) 64 0)) e
+          pub node-leaf : u ≡ 0
+              → record { outcome = cond (leaf v .found) Found NoRound; left = b - 1; list = cond (leaf v .found) (leaf v .list) old } ≡ within b (searchFrom u w) old
+          node-leaf z =
+              let m = leaf-nodes v in
+              let left : b - 1 ≡ b - 1 - leaf v .nodes = omega (arith, m) in
+              ap (λ (x : ℕ). record { outcome = cond (leaf v .found) Found NoRound; left = x; list = cond (leaf v .found) (leaf v .list) old }) left
+              ∙ sym (within-all (b - 1) (leaf v) old (omega (arith, m)))
+              ∙ enter (leaf v) (ap (λ (x : ℕ). searchFrom x w) z ∙ search-leaf w on ∙ ap (λ (x : Work). entered (leaf x)) (S .leaves e))
+
+          pub node-children : 0 < u → within (b - 1) (below u t (n - u) (row t (n - u))) old ≡ within b (searchFrom u w) old
+          unfolding leg decided
+          node-children h = enter (below u t (n - u) (row t (n - u))) (go u h)
+            where
+              go : (u : ℕ) → 0 < u → searchFrom u w ≡ entered (below u t (n - u) (row t (n - u)))
+              go zero l = absurd (let x : ⊥ = omega (arith, l) in x)
+              go (suc u) l =
+                  let fewer : u ≡ suc u - 1 = omega arith in
+                  let d = n - suc u in
+                  search-below w u on
+                  ∙ ap (λ (x : Work). entered (children (λ j. searchFrom u (decided x d j)) (leg (rowsOf x) d) 64 0)) (S .leaves e)
+                  ∙ ap (λ (k : ℕ). entered (children (λ j. searchFrom k (child t d j)) (has (row t d)) 64 0)) fewer
 
   -- ---- the loop over the children
 
@@ -98,12 +102,18 @@ module _ (n limit : ℕ) where
       rest-end e =
           sym (within-nothing b list) ∙ ap (λ (s : Search). within b s list) (sym (ap (below u t d) e ∙ children-empty (λ j. searchFrom (u - 1) (child t d j)) 64 0)) ∙ R .same
 
-      module _ (some : 0 < r) (p : Part) (new : List ℕ) (g : given p new ≡ within b (searchFrom (u - 1) (child t d (trailingZeros 64 r))) list) where
+      -- the lowest child, at the rows and the word that the code has of it, gives p and leaves the list new
+      module _ (some : 0 < r) (now : List ℕ) (only : ℕ) (is : now ≡ t) (one : only ≡ 2 ^ trailingZeros 64 r) (p : Part) (new : List ℕ)
+          (g : given p new ≡ within b (searchFrom (u - 1) (nodeAt n limit (set now d only))) list) where
         first : Search
         first = searchFrom (u - 1) (child t d (trailingZeros 64 r))
 
         others : Search
         others = below u t d (bitAnd r (r - 1))
+
+        gives : given p new ≡ within b first list
+        unfolding first
+        gives = g ∙ ap₂ (λ (x : List ℕ) (y : ℕ). within b (searchFrom (u - 1) (nodeAt n limit (set x d y))) list) is one
 
         split : within b (andThen first others) list ≡ within b₀ (below u t d r₀) old
         unfolding first others
@@ -111,44 +121,41 @@ module _ (n limit : ℕ) where
 
         -- it has no round: on to the next
         pub rest-next : isNoRound (p .outcome) ≡ true → length new ≡ n → Rest u t d b₀ r₀ old (p .left) (bitAnd r (r - 1)) new
-        unfolding first others
+        unfolding others
         rest-next e l =
-            let q = ap (λ (x : Within). isNoRound (x .outcome)) (sym g) ∙ e in
             record {
               word = omega (arith, and-le-l r (r - 1), R .word);
               among = λ j m. R .among j (and-l (has r j) _ (sym (has-clear 64 r j some (R .word)) ∙ m));
-              same = ap (λ (x : Within). within (x .left) others (x .list)) g ∙ sym (within-next b first others list q) ∙ split;
+              same = ap (λ (x : Within). within (x .left) others (x .list)) gives ∙ sym (within-next b first others list (ap (λ (x : Within). isNoRound (x .outcome)) (sym gives) ∙ e)) ∙ split;
               len = l;
             }
 
         -- it has one, or the budget is used up
         pub rest-stop : isNoRound (p .outcome) ≡ false → given p new ≡ within b₀ (below u t d r₀) old
-        unfolding first
-        rest-stop e = let q = ap (λ (x : Within). isNoRound (x .outcome)) (sym g) ∙ e in g ∙ sym (within-stop b first others list q) ∙ split
+        rest-stop e = gives ∙ sym (within-stop b first others list (ap (λ (x : Within). isNoRound (x .outcome)) (sym gives) ∙ e)) ∙ split
 
-  -- ---- the row that is decided is a word
+  -- ---- the children of a node whose run does not end none
 
-  pub row-word : (rows t : List ℕ) → Begun (nodeAt n limit rows) → Settles (nodeAt n limit rows) false t → (d : ℕ) → d < n → row t d < 2 ^ 64
-  row-word rows t b S d l = subst (λ (v : Work). row (rowsOf v) d < 2 ^ 64) (S .leaves refl) (settled-word (nodeAt n limit rows) b d l)
+  module _ (rows t : List ℕ) (b : Begun (nodeAt n limit rows)) (none : Bool) (S : Settles (nodeAt n limit rows) none t) (e : none ≡ false) (d : ℕ) (l : d < n) where
+    pub row-word : row t d < 2 ^ 64
+    row-word = subst (λ (v : Work). row (rowsOf v) d < 2 ^ 64) (S .leaves e) (settled-word (nodeAt n limit rows) b d l)
 
-  -- ---- a child is a node, and known where its row had the one leg already
+    module _ (j : ℕ) where
+      child-begun : has (row t d) j ≡ true → Begun (child t d j)
+      unfolding leg decided
+      child-begun = subst (λ (v : Work). leg (rowsOf v) d j ≡ true → Begun (decided v d j)) (S .leaves e) (decided-begun (nodeAt n limit rows) b d j)
 
-  module _ (rows t : List ℕ) (b : Begun (nodeAt n limit rows)) (S : Settles (nodeAt n limit rows) false t) (d : ℕ) (l : d < 64) (j : ℕ) where
-    child-begun : has (row t d) j ≡ true → Begun (child t d j)
-    unfolding leg decided
-    child-begun = subst (λ (v : Work). leg (rowsOf v) d j ≡ true → Begun (decided v d j)) (S .leaves refl) (decided-begun (nodeAt n limit rows) b d j)
+      child-known : row t d ≡ 2 ^ j → settled (child t d j) ≡ stableAt n limit (set t d (2 ^ j))
+      unfolding decided
+      child-known =
+          subst (λ (v : Work). row (rowsOf v) d ≡ 2 ^ j → settled (decided v d j) ≡ stableAt (v .n) (v .limit) (rowsOf (decided v d j))) (S .leaves e)
+          (forced (nodeAt n limit rows) b (sym (S .ends) ∙ e) d j (omega (arith, l, b .good .most)))
 
-    child-known : row t d ≡ 2 ^ j → settled (child t d j) ≡ stableAt n limit (set t d (2 ^ j))
-    unfolding decided
-    child-known =
-        subst (λ (v : Work). row (rowsOf v) d ≡ 2 ^ j → settled (decided v d j) ≡ stableAt (v .n) (v .limit) (rowsOf (decided v d j))) (S .leaves refl)
-        (forced (nodeAt n limit rows) b (sym (S .ends)) d j l)
-
-    -- the same at the rows and the word that the code has
-    pub ready : has (row t d) j ≡ true → (now : List ℕ) (only : ℕ) → now ≡ t → only ≡ 2 ^ j
-        → Begun (nodeAt n limit (set now d only)) × (row t d ≡ only → settled (nodeAt n limit (set now d only)) ≡ stableAt n limit (set now d only))
-    ready h now only e o =
-        let is = ap₂ (λ (r : List ℕ) (x : ℕ). set r d x) e o in (
-          subst (λ (u : List ℕ). Begun (nodeAt n limit u)) (sym is) (child-begun h),
-          λ q. subst (λ (u : List ℕ). settled (nodeAt n limit u) ≡ stableAt n limit u) (sym is) (child-known (q ∙ o)),
-        )
+      -- at the rows and the word that the code has: a node, and known where its row had the one leg already
+      pub ready : has (row t d) j ≡ true → (now : List ℕ) (only : ℕ) → now ≡ t → only ≡ 2 ^ j
+          → Begun (nodeAt n limit (set now d only)) × (row t d ≡ only → settled (nodeAt n limit (set now d only)) ≡ stableAt n limit (set now d only))
+      ready h now only is one =
+          let at = ap₂ (λ (r : List ℕ) (x : ℕ). set r d x) is one in (
+            subst (λ (u : List ℕ). Begun (nodeAt n limit u)) (sym at) (child-begun h),
+            λ q. subst (λ (u : List ℕ). settled (nodeAt n limit u) ≡ stableAt n limit u) (sym at) (child-known (q ∙ one)),
+          )

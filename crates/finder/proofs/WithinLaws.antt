@@ -15,7 +15,7 @@ use Rattle.finder.specs.Call.{outcomeOf, nodesOf, listAfter}
 use Rattle.finder.specs.inner.Parts.{isNoRound, Within, within}
 use Rattle.finder.proofs.ChildrenLaws.{then-found, then-next}
 
-fits? : (a b : ℕ) → (a ≤ b) ⊎ (b < a)
+pub fits? : (a b : ℕ) → (a ≤ b) ⊎ (b < a)
 fits? a b = ⊎-elim (λ (e : leb a b ≡ true). inl (leb-true a b e)) (λ (e : leb a b ≡ false). inr (leb-false a b e)) (cases (leb a b))
 
 -- the budget is enough

@@ -1,21 +1,19 @@
 -- `finder::search::descend` meets its contract.
 use borrow.Author.Needs.{needs}
-use mathlib.Core.Path.{_≡_, refl, sym, ap₂, _∙_, subst}
+use mathlib.Core.Path.{_≡_, refl, sym, ap₂, _∙_}
 use mathlib.Core.Bool.{Bool, true, false, cond}
 use mathlib.Core.List.{List}
 use Prim.Native.Nat.{ℕ, _-_, _<_}
 use native.Mathlib.Omega.{arith}
 use lib.Bits.{and-le-r}
 use lib.Count.{trailingZeros, trailing-le}
-use lib.ListN.{set}
 use borrow.Author.Tests.{eqb-true}
 use Rattle.bitset.proofs.LeastLaws.{trailing-least}
 use Rattle.bitset.proofs.MachineLaws.{shl-one}
 use Rattle.finder.specs.declared.outcome.Outcome.the-variants.{Found, NoRound}
-use Rattle.finder.specs.Search.{leaf, searchFrom}
-use Rattle.finder.specs.inner.Nodes.{nodeAt, stableAt, Settles}
-use Rattle.finder.specs.inner.Parts.{within, given}
-use Rattle.finder.proofs.StepLaws.{node-off, node-end, node-leaf, node-children, Rest, rest-start, rest-end, rest-next, rest-stop, child, row-word, ready}
+use Rattle.finder.specs.Search.{leaf}
+use Rattle.finder.specs.inner.Nodes.{stableAt}
+use Rattle.finder.proofs.StepLaws.{node-off, node-end, node-leaf, node-children, Rest, rest-start, rest-end, rest-next, rest-stop, row-word, ready}
 use borrow.Fn.Kinds.{In}
 use borrow.Fn.PlainCycle.{Measures, is, falls, and}
 use Rattle.finder.proofs.search.descend.Reads as descend
@@ -62,9 +60,7 @@ descend-settle-requires t c κs = let p = c .before .before .before .before .pre
 descend-returns-2 : (t : ℕ) → descend-lts.Need-returns-2 (claims t) (descend-at t) descend.Post descend-Inv-loop descend-μ-loop
 descend-returns-2 t c =
     let a = c .before .before .before .before .before .before .args in
-    let t = c .before .settle .last .0 in
-    let S = subst (λ (x : Bool). Settles (nodeAt (a .n) (a .limit) (a .rows .now)) x t) (c .if2 .taken) (c .before .settle .ensures) in
-    node-end (a .n) (a .limit) (a .undecided) (a .rows .now) (a .list .now) (a .budget) (omega arith) t S
+    node-end (a .n) (a .limit) (a .undecided) (a .rows .now) (a .list .now) (a .budget) (omega arith) _ _ (c .before .settle .ensures) (c .if2 .taken)
 
 descend-try-list-requires : (t : ℕ) → descend-lts.Need-try-list-requires (claims t) (descend-at t) descend.Post descend-Inv-loop descend-μ-loop
 descend-try-list-requires t c κs = let p = c .before .before .before .before .before .before .before .before .before .pre .1 in (p .0 .good .most, p .3)
@@ -76,11 +72,9 @@ descend-returns-3 : (t : ℕ) → descend-lts.Need-returns-3 (claims t) (descend
 descend-returns-3 t c =
     let a = c .before .before .before .before .before .before .before .before .before .before .before .before .before .args in
     let y = c .before .before .before .try-list .ensures in
-    let t = c .before .before .before .before .before .before .before .before .settle .last .0 in
-    let S = subst (λ (x : Bool). Settles (nodeAt (a .n) (a .limit) (a .rows .now)) x t) (c .before .before .before .before .before .before .before .if2 .left) (c .before .before .before .before .before .before .before .before .settle .ensures) in
-    let f : leaf (stableAt (a .n) (a .limit) t) .found ≡ true = sym (y .0) ∙ c .if4 .taken in
+    let f : leaf (stableAt (a .n) (a .limit) (c .before .before .before .before .before .before .before .before .settle .last .0)) .found ≡ true = sym (y .0) ∙ c .if4 .taken in
     ap₂ (λ (x : Bool) (l : List ℕ). record { outcome = cond x Found NoRound; left = a .budget - 1; list = l }) (sym f) (y .1)
-    ∙ node-leaf (a .n) (a .limit) (a .undecided) (a .rows .now) (a .list .now) (a .budget) (omega arith) t S (c .before .before .before .before .before .before .if3 .taken)
+    ∙ node-leaf (a .n) (a .limit) (a .undecided) (a .rows .now) (a .list .now) (a .budget) (omega arith) _ _ (c .before .before .before .before .before .before .before .before .settle .ensures) (c .before .before .before .before .before .before .before .if2 .left) (c .before .before .before .before .before .before .if3 .taken)
 
 descend-same-length-2 : (t : ℕ) → descend-lts.Need-same-length-2 (claims t) (descend-at t) descend.Post descend-Inv-loop descend-μ-loop
 descend-same-length-2 t c = search needs
@@ -89,11 +83,9 @@ descend-returns-4 : (t : ℕ) → descend-lts.Need-returns-4 (claims t) (descend
 descend-returns-4 t c =
     let a = c .before .before .before .before .before .before .before .before .before .before .before .before .before .args in
     let y = c .before .before .before .try-list .ensures in
-    let t = c .before .before .before .before .before .before .before .before .settle .last .0 in
-    let S = subst (λ (x : Bool). Settles (nodeAt (a .n) (a .limit) (a .rows .now)) x t) (c .before .before .before .before .before .before .before .if2 .left) (c .before .before .before .before .before .before .before .before .settle .ensures) in
-    let f : leaf (stableAt (a .n) (a .limit) t) .found ≡ false = sym (y .0) ∙ c .if4 .left in
+    let f : leaf (stableAt (a .n) (a .limit) (c .before .before .before .before .before .before .before .before .settle .last .0)) .found ≡ false = sym (y .0) ∙ c .if4 .left in
     ap₂ (λ (x : Bool) (l : List ℕ). record { outcome = cond x Found NoRound; left = a .budget - 1; list = l }) (sym f) (y .1)
-    ∙ node-leaf (a .n) (a .limit) (a .undecided) (a .rows .now) (a .list .now) (a .budget) (omega arith) t S (c .before .before .before .before .before .before .if3 .taken)
+    ∙ node-leaf (a .n) (a .limit) (a .undecided) (a .rows .now) (a .list .now) (a .budget) (omega arith) _ _ (c .before .before .before .before .before .before .before .before .settle .ensures) (c .before .before .before .before .before .before .before .if2 .left) (c .before .before .before .before .before .before .if3 .taken)
 
 descend-sub-d : (t : ℕ) → descend-lts.Need-sub-d (claims t) (descend-at t) descend.Post descend-Inv-loop descend-μ-loop
 descend-sub-d t c = omega (arith, c .before .before .before .before .before .before .before .pre .1 .2)
@@ -108,9 +100,7 @@ descend-loop-holds : (t : ℕ) → descend-lts.Need-loop-holds (claims t) (desce
 descend-loop-holds t c =
     let a = c .before .before .before .before .before .before .before .before .args in
     let p = c .before .before .before .before .before .before .before .before .pre .1 in
-    let t = c .before .before .before .settle .last .0 in
-    let S = subst (λ (x : Bool). Settles (nodeAt (a .n) (a .limit) (a .rows .now)) x t) (c .before .before .if2 .left) (c .before .before .before .settle .ensures) in
-    (refl, rest-start _ _ _ _ _ _ _ _ (row-word (a .n) (a .limit) (a .rows .now) t (p .0) S (a .n - a .undecided) (omega (arith, p .2))) (p .3))
+    (refl, rest-start _ _ _ _ _ _ _ _ (row-word (a .n) (a .limit) (a .rows .now) _ (p .0) _ (c .before .before .before .settle .ensures) (c .before .before .if2 .left) (a .n - a .undecided) (omega (arith, p .2))) (p .3))
 
 descend-cast-only : (t : ℕ) → descend-lts.Need-cast-only (claims t) (descend-at t) descend.Post descend-Inv-loop descend-μ-loop
 descend-cast-only t c = omega (arith, trailing-le 64 (c .before .loop .rest))
@@ -129,18 +119,15 @@ descend-sub-descend t c = omega arith
 
 descend-descend-requires : (t : ℕ) → descend-lts.Need-descend-requires (claims t) (descend-at t) descend.Post descend-Inv-loop descend-μ-loop
 descend-descend-requires t c κs =
-    let top = c .before .before .before .before .before .before .before .before .before .before .before .before .before .before in
-    let a = top .args in
-    let p = top .pre .1 in
+    let a = c .before .before .before .before .before .before .before .before .before .before .before .before .before .before .args in
+    let p = c .before .before .before .before .before .before .before .before .before .before .before .before .before .before .pre .1 in
     let l = c .before .before .before .before .before .loop in
-    let t = c .before .before .before .before .before .before .before .before .before .settle .last .0 in
-    let d = a .n - a .undecided in
-    let S = subst (λ (x : Bool). Settles (nodeAt (a .n) (a .limit) (a .rows .now)) x t) (c .before .before .before .before .before .before .before .before .if2 .left) (c .before .before .before .before .before .before .before .before .before .settle .ensures) in
     let least = trailing-least 64 (l .rest) (omega arith) (l .inv .1 .word) in
-    let only = shl-one 64 (trailingZeros 64 (l .rest)) (least .below) in
-    let low : d < 64 = omega (arith, p .0 .good .most) in
-    let x = ready (a .n) (a .limit) (a .rows .now) t (p .0) S d low (trailingZeros 64 (l .rest)) (l .inv .1 .among _ (least .member)) (l .rows) _ (l .inv .0) only in
-    (omega (arith, top .pre .0), (x .0, (λ q. x .1 (eqb-true _ _ q)), omega (arith, p .2), l .inv .1 .len))
+    let low : a .n - a .undecided < a .n = omega (arith, p .2) in
+    let x =
+    ready (a .n) (a .limit) (a .rows .now) _ (p .0) _ (c .before .before .before .before .before .before .before .before .before .settle .ensures) (c .before .before .before .before .before .before .before .before .if2 .left) _ low (trailingZeros 64 (l .rest)) (l .inv .1 .among _ (least .member)) (l .rows) _ (l .inv .0)
+    (shl-one 64 (trailingZeros 64 (l .rest)) (least .below)) in
+    (omega (arith, c .before .before .before .before .before .before .before .before .before .before .before .before .before .before .pre .0), (x .0, (λ q. x .1 (eqb-true _ _ q)), omega (arith, p .2), l .inv .1 .len))
 
 descend-is-no-round-requires : (t : ℕ) → descend-lts.Need-is-no-round-requires (claims t) (descend-at t) descend.Post descend-Inv-loop descend-μ-loop
 descend-is-no-round-requires t c κs = tt
@@ -153,16 +140,13 @@ descend-loop-less t c = let r = c .before .before .before .before .before .befor
 
 descend-loop-again : (t : ℕ) → descend-lts.Need-loop-again (claims t) (descend-at t) descend.Post descend-Inv-loop descend-μ-loop
 descend-loop-again t c =
-    let a = c .before .before .before .before .before .before .before .before .before .before .before .before .before .before .before .before .before .before .before .args in
     let l = c .before .before .before .before .before .before .before .before .before .before .loop in
-    let t = c .before .before .before .before .before .before .before .before .before .before .before .before .before .before .settle .last .0 in
-    let d = a .n - a .undecided in
     let y = c .before .before .before .before .descend in
-    let new : List ℕ = y .last .1 .1 .1 .1 .1 .1 .1 .0 in
-    let least = trailing-least 64 (l .rest) (omega arith) (l .inv .1 .word) in
-    let g : given (y .result) new ≡ within (l .left) (searchFrom (a .undecided - 1) (child (a .n) (a .limit) t d (trailingZeros 64 (l .rest)))) (l .list) =
-    y .ensures ∙ ap₂ (λ (r : List ℕ) (x : ℕ). within (l .left) (searchFrom (a .undecided - 1) (nodeAt (a .n) (a .limit) (set r d x))) (l .list)) (l .inv .0) (shl-one 64 (trailingZeros 64 (l .rest)) (least .below)) in
-    (l .inv .0, rest-next _ _ _ _ _ _ _ _ _ _ _ (l .inv .1) (omega arith) (y .result) new g (sym (c .before .is-no-round .ensures) ∙ c .if5 .taken) (y .kept .1 .1 .1 .1 .1 .1 .1 .0 ∙ l .inv .1 .len))
+    let least = trailing-least 64 (l .rest) (omega arith) (l .inv .1 .word) in (
+      l .inv .0,
+      rest-next _ _ _ _ _ _ _ _ _ _ _ (l .inv .1) (omega arith) _ _ (l .inv .0) (shl-one 64 _ (least .below)) (y .result) _ (y .ensures)
+          (sym (c .before .is-no-round .ensures) ∙ c .if5 .taken) (y .kept .1 .1 .1 .1 .1 .1 .1 .0 ∙ l .inv .1 .len),
+    )
 
 descend-same-length-3 : (t : ℕ) → descend-lts.Need-same-length-3 (claims t) (descend-at t) descend.Post descend-Inv-loop descend-μ-loop
 descend-same-length-3 t c = c .before .before .before .before .descend .kept .1 .1 .1 .1 .1 .1 .1 .0 ∙ c .before .before .before .before .before .before .before .before .before .before .loop .inv .1 .len ∙ sym (c .before .before .before .before .before .before .before .before .before .before .before .before .before .before .before .before .before .before .before .pre .1 .3)
@@ -171,16 +155,11 @@ descend-returns-5 : (t : ℕ) → descend-lts.Need-returns-5 (claims t) (descend
 descend-returns-5 t c =
     let a = c .before .before .before .before .before .before .before .before .before .before .before .before .before .before .before .before .before .before .before .args in
     let l = c .before .before .before .before .before .before .before .before .before .before .loop in
-    let t = c .before .before .before .before .before .before .before .before .before .before .before .before .before .before .settle .last .0 in
-    let d = a .n - a .undecided in
     let y = c .before .before .before .before .descend in
-    let new : List ℕ = y .last .1 .1 .1 .1 .1 .1 .1 .0 in
     let least = trailing-least 64 (l .rest) (omega arith) (l .inv .1 .word) in
-    let g : given (y .result) new ≡ within (l .left) (searchFrom (a .undecided - 1) (child (a .n) (a .limit) t d (trailingZeros 64 (l .rest)))) (l .list) =
-    y .ensures ∙ ap₂ (λ (r : List ℕ) (x : ℕ). within (l .left) (searchFrom (a .undecided - 1) (nodeAt (a .n) (a .limit) (set r d x))) (l .list)) (l .inv .0) (shl-one 64 (trailingZeros 64 (l .rest)) (least .below)) in
-    let S = subst (λ (x : Bool). Settles (nodeAt (a .n) (a .limit) (a .rows .now)) x t) (c .before .before .before .before .before .before .before .before .before .before .before .before .before .if2 .left) (c .before .before .before .before .before .before .before .before .before .before .before .before .before .before .settle .ensures) in
-    rest-stop _ _ _ _ _ _ _ _ _ _ _ (l .inv .1) (omega arith) (y .result) new g (sym (c .before .is-no-round .ensures) ∙ c .if5 .left)
-    ∙ node-children (a .n) (a .limit) (a .undecided) (a .rows .now) (a .list .now) (a .budget) (omega arith) t S (omega arith)
+    rest-stop _ _ _ _ _ _ _ _ _ _ _ (l .inv .1) (omega arith) _ _ (l .inv .0) (shl-one 64 _ (least .below)) (y .result) _ (y .ensures)
+    (sym (c .before .is-no-round .ensures) ∙ c .if5 .left)
+    ∙ node-children (a .n) (a .limit) (a .undecided) (a .rows .now) (a .list .now) (a .budget) (omega arith) _ _ (c .before .before .before .before .before .before .before .before .before .before .before .before .before .before .settle .ensures) (c .before .before .before .before .before .before .before .before .before .before .before .before .before .if2 .left) (omega arith)
 
 descend-same-length-4 : (t : ℕ) → descend-lts.Need-same-length-4 (claims t) (descend-at t) descend.Post descend-Inv-loop descend-μ-loop
 descend-same-length-4 t c = c .before .loop .inv .1 .len ∙ sym (c .before .before .before .before .before .before .before .before .before .before .pre .1 .3)
@@ -188,11 +167,8 @@ descend-same-length-4 t c = c .before .loop .inv .1 .len ∙ sym (c .before .bef
 descend-returns-6 : (t : ℕ) → descend-lts.Need-returns-6 (claims t) (descend-at t) descend.Post descend-Inv-loop descend-μ-loop
 descend-returns-6 t c =
     let a = c .before .before .before .before .before .before .before .before .before .before .args in
-    let l = c .before .loop in
-    let t = c .before .before .before .before .before .settle .last .0 in
-    let S = subst (λ (x : Bool). Settles (nodeAt (a .n) (a .limit) (a .rows .now)) x t) (c .before .before .before .before .if2 .left) (c .before .before .before .before .before .settle .ensures) in
-    rest-end _ _ _ _ _ _ _ _ _ _ _ (l .inv .1) (omega arith)
-    ∙ node-children (a .n) (a .limit) (a .undecided) (a .rows .now) (a .list .now) (a .budget) (omega arith) t S (omega arith)
+    rest-end _ _ _ _ _ _ _ _ _ _ _ (c .before .loop .inv .1) (omega arith)
+    ∙ node-children (a .n) (a .limit) (a .undecided) (a .rows .now) (a .list .now) (a .budget) (omega arith) _ _ (c .before .before .before .before .before .settle .ensures) (c .before .before .before .before .if2 .left) (omega arith)
 
 pub +descend-spec : {M : Type 1} → statement M
 +descend-spec =
