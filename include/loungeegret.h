@@ -173,8 +173,8 @@ enum {
  * LOUNGEEGRET_REFUSED and `*nodes` 0.
  *
  * After a taken opening and any calls on the same words, whatever they struck and however a run ended, the round that is found is
- * the first of the opened table, and no round is said only where the opened table has none (first-after; of the words,
- * in-sequence). So the list is the same before a run and after it; of the number of nodes that is not said.
+ * the first of the opened table, and no round is said only where the opened table has none (proved: first-words). So the list is
+ * the same before a run and after it; of the number of nodes that is not said.
  *
  * Which budget: a search that finds enters at least n + 1 nodes (finds), and on most tables that were measured hardly more. But
  * there are tables where 100000 are not enough, among them grids whose stations are numbered at random, and a node can take as long

@@ -4,3 +4,4 @@ pub mod SequenceLaws
 pub mod EndLaws
 pub mod TurnLaws
 pub mod StableLaws
+pub mod RoundLaws

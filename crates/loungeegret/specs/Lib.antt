@@ -4,4 +4,5 @@ pub mod Results
 pub mod Sequence
 pub mod Turns
 pub mod Stable
+pub mod Rounds
 pub mod inner
