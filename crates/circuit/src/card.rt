@@ -16,6 +16,8 @@ pub enum Answer {
     StraySeed,
     WrongLength,
     NoRoom,
+    NotTwoWay,
+    StrayRoad,
 }
 
 impl Answer {
@@ -35,6 +37,8 @@ impl Answer {
             Answer::StraySeed => 8,
             Answer::WrongLength => 9,
             Answer::NoRoom => 10,
+            Answer::NotTwoWay => 11,
+            Answer::StrayRoad => 12,
         }
     }
 }

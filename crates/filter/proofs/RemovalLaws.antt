@@ -54,7 +54,7 @@ from-removed (suc b) w g =
 
 -- ---- the calls
 
-byHand-removed : (w : Work) (v : Verdict) → Subtable (v .left) (rowsOf w) → byHand w v .removed + legs (w .n) (rowsOf (byHand w v .work)) ≡ legs (w .n) (rowsOf w)
+pub byHand-removed : (w : Work) (v : Verdict) → Subtable (v .left) (rowsOf w) → byHand w v .removed + legs (w .n) (rowsOf (byHand w v .work)) ≡ legs (w .n) (rowsOf w)
 byHand-removed w v sub =
     byHand-cases (λ (c : Called). c .removed + legs (w .n) (rowsOf (c .work)) ≡ legs (w .n) (rowsOf w)) w v (λ _. omega arith) (λ _. left-le w v sub)
     (λ _ _. left-le w v sub) (λ _ _. omega arith)
@@ -95,14 +95,14 @@ same-table n t u le clean lt lu sub few = upto-of 64 (row t) 0 u lu (λ i l. ⊎
         let most = sum-tight n (λ i. size n (row u i)) (λ i. size n (row t i)) (λ i l. count-mono n (has (row u i)) (has (row t i)) (λ j m e. sub i j e)) few i l in
         within-eq n (row u i) (row t i) a b (λ j m e. sub i j e) (omega (arith, most, size-ones n (row u i) a, size-ones n (row t i) b))
 
--- what a sound verdict leaves where no leg goes
-pub left-same : (w : Work) (v : Verdict) → Good w → Sound All (w .n) (rowsOf w) v → length (rowsOf w) ≡ 64 → gone w v ≡ 0 → v .left ≡ rowsOf w
-left-same w v g S long none =
-    same-table (w .n) (rowsOf w) (v .left) (g .most) (g .table) long (S .long long) (S .sub) (omega (arith, none, left-le w v (S .sub)))
+-- what a verdict leaves where no leg goes
+pub left-same : (w : Work) (v : Verdict) → w .n ≤ 64 → stray (w .n) (rowsOf w) ≡ false → length (rowsOf w) ≡ 64 → length (v .left) ≡ 64 → Subtable (v .left) (rowsOf w)
+    → gone w v ≡ 0 → v .left ≡ rowsOf w
+left-same w v most clean long left sub none = same-table (w .n) (rowsOf w) (v .left) most clean long left sub (omega (arith, none, left-le w v sub))
 
 -- the table of a call that removes none
 module _ (w : Work) (long : length (rowsOf w) ≡ 64) where
-  kept : (u : Work) (removed : ℕ) → bad w ≡ false → Leads All w u → removed + legs (w .n) (rowsOf u) ≡ legs (w .n) (rowsOf w) → removed ≡ 0 → rowsOf u ≡ rowsOf w
+  pub kept : {P : (ℕ → ℕ) → Type 0} (u : Work) (removed : ℕ) → bad w ≡ false → Leads P w u → removed + legs (w .n) (rowsOf u) ≡ legs (w .n) (rowsOf w) → removed ≡ 0 → rowsOf u ≡ rowsOf w
   kept u removed e L count none =
       let g = good w e in
       same-table (w .n) (rowsOf w) (rowsOf u) (g .most) (g .table) long (L .long long) (L .sub) (omega (arith, count, none))

@@ -14,7 +14,6 @@ use Rattle.circuit.specs.declared.verdict.Verdict.{Verdict}
 use Rattle.circuit.specs.declared.card.Answer.the-variants.{Taken, StraySeed}
 use Rattle.circuit.specs.declared.card.End.{End}
 use Rattle.circuit.specs.declared.card.End.the-variants.{Open, Stable, None}
-use Rattle.circuit.specs.Round.{All}
 use Rattle.circuit.specs.State.{isOpen, isNone, rowsOf, moved, lastPlace, Good}
 use Rattle.circuit.specs.Verdict.{leaves, Sound}
 use Rattle.circuit.proofs.StateLaws.{not-bad, moved-good}
@@ -64,14 +63,14 @@ module _ (w : Work) (v : Verdict) where
   cycled-stable true e = open-stable e
   cycled-stable false e = refl
 
-  module _ (S : Sound All (w .n) (rowsOf w) v) (I : CycleInvariant w) where
+  module _ {P : (ℕ → ℕ) → Type 0} (S : Sound P (w .n) (rowsOf w) v) (I : CycleInvariant w) where
     left-good : (place : ℕ) (mark : Bool) (end : End) → place ≤ lastPlace (w .n) → Good (moved w (v .left) place mark end)
     left-good place mark end = moved-good w (v .left) place mark end (I .good) (S .clean (I .good .table))
 
     halted-invariant : CycleInvariant (halted w v)
     halted-invariant = none-invariant (halted w v) (left-good (w .place) (w .mark) None (I .good .place)) (S .long (I .long)) refl
 
-    byHand-invariant : CycleInvariant (byHand w v .work)
+    pub byHand-invariant : CycleInvariant (byHand w v .work)
     byHand-invariant =
         byHand-cases (λ (c : Called). CycleInvariant (c .work)) w v (λ _. I) (λ _. halted-invariant)
         (λ _ _. begun-invariant (moved w (v .left) 0 false Open) (left-good 0 false Open zero-le) (S .long (I .long)) refl refl) (λ _ _. I)
@@ -79,7 +78,7 @@ module _ (w : Work) (v : Verdict) where
     module _ (o : w .end ≡ Open) (here : v ≡ verdict w (ruleAt (w .place))) (e : v .none ≡ false) (m : markAfter w v ≡ false) where
       -- the step left the table
       same : v ≡ leaves (rowsOf w)
-      same = ap₂ (λ (b : Bool) (t : List ℕ). record { none = b; left = t }) e (left-same w v (I .good) S (I .long) (mark-clear w v m .1))
+      same = ap₂ (λ (b : Bool) (t : List ℕ). record { none = b; left = t }) e (left-same w v (I .good .most) (I .good .table) (I .long) (S .long (I .long)) (S .sub) (mark-clear w v m .1))
 
       -- so the rule at its place leaves it, as those before do
       up-to : (k : ℕ) → k < suc (w .place) → Leaves w (ruleAt k)

@@ -10,8 +10,10 @@ use circuit::Work;
 ghost use denote.Ref.{now};
 ghost use mathlib.Core.Path.{_≡_};
 ghost use mathlib.Core.Bool.{false};
+ghost use Prim.Native.Nat.{ℕ, _≤_};
 ghost use lib.ListN.{length};
-ghost use Rattle.circuit.specs.State.{isNone, Good};
+ghost use Rattle.circuit.specs.Legs.{Subtable};
+ghost use Rattle.circuit.specs.State.{isNone, stray, Good};
 ghost use Rattle.filter.specs.Rule.{straySeed};
 ghost use Rattle.filter.specs.Calls.{verdict, byHand, handCall, sweepCall, chainCall, passCall};
 ghost use Rattle.filter.specs.inner.Steps.{HandMoved, stateAt, calledAs};
@@ -62,6 +64,28 @@ fn moved_by(at: Cursor, none: bool, removed: u32) -> Cursor
     at
 }
 
+// What the verdict of a step called by hand makes of a good state whose end is not none: the rows before it, and those that it leaves.
+// `struck` is false only where they are the same. A step of another crate ends by this too.
+pub fn by_verdict(
+    before: &[u64; 64],
+    left: &[u64; 64],
+    n: usize,
+    at: Cursor,
+    none: bool,
+    struck: bool,
+) -> CalledIn
+    requires { ⌜ (n ≤ 64) × (stray n (now before) ≡ false) × (length (now before) ≡ 64) × (length (now left) ≡ 64) × Subtable (now left) (now before)
+        × (struck ≡ false → now left ≡ now before) × (isNone (at .end) ≡ false) ⌝ }
+    ensures { λ r. ⌜ ((limit : ℕ) → calledAs n limit (now (left .entry)) r ≡ byHand (stateAt n (now (before .entry)) limit at) (record { none = none; left = now (left .entry) })) ⌝ }
+{
+    let removed = removals(struck, before, left, n);
+    CalledIn {
+        answer: Answer::Taken,
+        at: moved_by(at, none, removed),
+        removed,
+    }
+}
+
 // A rule called by hand on a good state whose end is not none.
 fn by_hand(rows: &mut [u64; 64], n: usize, limit: usize, at: Cursor, rule: Rule) -> CalledIn
     requires { ⌜ Good (stateAt n (now rows) limit at) × (length (now rows) ≡ 64) × (straySeed n rule ≡ false) × (isNone (at .end) ≡ false) ⌝ }
@@ -69,12 +93,7 @@ fn by_hand(rows: &mut [u64; 64], n: usize, limit: usize, at: Cursor, rule: Rule)
 {
     let before = *rows;
     let taken = take(rule, rows, n, limit);
-    let removed = removals(taken.struck, &before, rows, n);
-    CalledIn {
-        answer: Answer::Taken,
-        at: moved_by(at, taken.none, removed),
-        removed,
-    }
+    by_verdict(&before, rows, n, at, taken.none, taken.struck)
 }
 
 // A rule called by hand on lent rows: the checks, and then its verdict on them.

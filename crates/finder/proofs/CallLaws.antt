@@ -94,11 +94,11 @@ module _ (w : Work) (g : Good w) (long : length (rowsOf w) ≡ 64) where
     hit h f =
         let L = whole-tells .lists f in
         record {
-          found = λ _. record { round = L .round; first = λ y r. before (w .n) (choiceOf (whole w .list)) y (whole-tells .first f y r) };
+          found = λ _. record { round = L .round; first = λ y _ r. before (w .n) (choiceOf (whole w .list)) y (whole-tells .first f y r) };
           passes = λ _. round-list w (whole w .list) g L;
           found-back = λ _ _ _. refl;
           none = λ e. found-none e;
-          none-back = λ e _. absurd (e (choiceOf (whole w .list)) (L .round));
+          none-back = λ e _. absurd (e (choiceOf (whole w .list)) tt (L .round));
           used = λ e. found-used e;
           used-back = λ e. absurd (let z : ⊥ = omega (arith, e, h) in z);
           count = λ _. omega (arith, h);
@@ -112,7 +112,7 @@ module _ (w : Work) (g : Good w) (long : length (rowsOf w) ≡ 64) where
           found = λ e. found-none (sym e);
           passes = λ e. found-none (sym e);
           found-back = λ h r _. absurd (whole-tells .none f h r);
-          none = λ _. (whole-tells .none f, h);
+          none = λ _. (λ y _ r. whole-tells .none f y r, h);
           none-back = λ _ _. refl;
           used = λ e. none-used e;
           used-back = λ e. absurd (let z : ⊥ = omega (arith, e, h) in z);

@@ -5,17 +5,13 @@ use mathlib.Core.List.{List}
 use Prim.Native.Nat.{ℕ, _≤_, _<_}
 use Rattle.circuit.specs.declared.state.Work.{Work}
 use Rattle.circuit.specs.State.{rowsOf}
-use Rattle.circuit.specs.Round.{RoundOf}
+use Rattle.circuit.specs.Round.{RoundOf, All, NoneIn}
 use Rattle.circuit.specs.Check.{choiceOf, checkCall}
 use Rattle.finder.specs.declared.outcome.Outcome.the-variants.{Found, NoRound, UsedUp}
 use Rattle.finder.specs.declared.outcome.Sought.{Sought}
 use Rattle.finder.specs.Search.{whole}
 use Rattle.finder.specs.Call.{firstCall, firstList}
 use Rattle.finder.specs.First.{First}
-
--- the table has no round
-abbrev pub NoneOf : ℕ → List ℕ → Type 0
-NoneOf n t = (h : ℕ → ℕ) → RoundOf n t h → ⊥
 
 -- the nodes that the search takes: the least budget that is enough
 abbrev pub enough : Work → ℕ
@@ -24,13 +20,13 @@ enough w = whole w .nodes
 -- of what a call that is not refused hands back, and of the list that it leaves, with a budget of b nodes
 pub record Finds (w : Work) (b : ℕ) (r : Sought) (list : List ℕ) : Type 0 where
   -- found: the list names the first round of the table, and passes the list check on the given state
-  pub found : r .outcome ≡ Found → First (w .n) (rowsOf w) (choiceOf list)
+  pub found : r .outcome ≡ Found → First All (w .n) (rowsOf w) (choiceOf list)
   pub passes : r .outcome ≡ Found → checkCall w list .yes ≡ true
   -- and where the table has a round and the budget is enough, one is found
   pub found-back : (h : ℕ → ℕ) → RoundOf (w .n) (rowsOf w) h → enough w ≤ b → r .outcome ≡ Found
   -- no round: exactly when the table has none and no node is left
-  pub none : r .outcome ≡ NoRound → NoneOf (w .n) (rowsOf w) × (enough w ≤ b)
-  pub none-back : NoneOf (w .n) (rowsOf w) → enough w ≤ b → r .outcome ≡ NoRound
+  pub none : r .outcome ≡ NoRound → NoneIn All (w .n) (rowsOf w) × (enough w ≤ b)
+  pub none-back : NoneIn All (w .n) (rowsOf w) → enough w ≤ b → r .outcome ≡ NoRound
   -- used up: exactly when another node is due, and the count then is the budget
   pub used : r .outcome ≡ UsedUp → (b < enough w) × (r .nodes ≡ b)
   pub used-back : b < enough w → r .outcome ≡ UsedUp

@@ -1,18 +1,13 @@
 -- `filter::by_hand` meets its contract.
-use borrow.Author.Needs.{needs}
-use mathlib.Core.Path.{_≡_, refl, sym, ap, ap₂, _∙_, subst}
-use Prim.Native.Nat.{ℕ}
+use mathlib.Core.Path.{_≡_, sym, ap, _∙_, subst}
 use Rattle.circuit.specs.declared.state.Work.{Work}
-use Rattle.circuit.specs.declared.card.Answer.the-variants.{Taken}
 use Rattle.circuit.specs.declared.verdict.Verdict.{Verdict}
 use Rattle.circuit.specs.State.{rowsOf}
 use Rattle.circuit.specs.Round.{All}
 use Rattle.circuit.specs.Verdict.{Sound}
-use Rattle.filter.specs.Calls.{verdict, gone, byHand}
+use Rattle.filter.specs.Calls.{verdict, byHand}
 use Rattle.filter.specs.inner.Steps.{stateAt}
 use Rattle.filter.proofs.RuleLaws.{says-sound}
-use Rattle.filter.proofs.HandLaws.{hand-is}
-use Rattle.filter.proofs.RemovalLaws.{left-same}
 use Rattle.filter.proofs.hand.by_hand.Statement.{statement}
 use Rattle.filter.proofs.hand.by_hand.Tie as tie
 
@@ -20,9 +15,6 @@ use Rattle.filter.proofs.hand.by_hand.Tie as tie
 
 abbrev start : tie.After-take → tie.Start
 start c = c .before .before .before
-
-abbrev taken : tie.After-removals → tie.After-take
-taken c = c .before .before .before
 
 -- the state that is given
 abbrev given : tie.Start → Work
@@ -47,27 +39,19 @@ take-requires c κs =
     let g = s .pre .0 in
     (g .two, g .most, s .pre .2, s .pre .1, g .table)
 
-removals-requires : tie.Need-removals-requires
-removals-requires c κs =
+by-verdict-requires : tie.Need-by-verdict-requires
+by-verdict-requires c κs =
     let t = c .before .before in
-    let g = start t .pre .0 in
+    let s = start t in
+    let g = s .pre .0 in
     let L = t .take .ensures in
-    (g .most, g .table, L .clean, sound t .sub, L .same)
-
-moved-by-requires : tie.Need-moved-by-requires
-moved-by-requires c κs = search needs
+    (g .most, g .table, s .pre .1, L .len, sound t .sub, L .same, s .pre .3)
 
 returns : tie.Need-returns
-unfolding gone
 returns c =
-    let r = c .before .removals in
-    let t = taken (c .before) in
+    let t = c .before .before .before in
     let s = start t in
-    let w = given s in
-    let count : r .result ≡ gone w (told t) = r .ensures in
-    ap₂ (λ (u : Work) (k : ℕ). record { answer = Taken; work = u; removed = k })
-    (c .moved-by .ensures w (told t) refl refl refl (s .pre .3) refl count (λ z. left-same w (told t) (s .pre .0) (sound t) (s .pre .1) (sym count ∙ z))) count
-    ∙ hand-is w (told t) (s .pre .3) ∙ ap (byHand w) (sym (says t))
+    c .by-verdict .ensures (s .args .limit) ∙ ap (byHand (given s)) (sym (says t))
 
 pub by-hand-spec : {M : Type 1} → statement M
-by-hand-spec = tie.close (tie.spec take-requires removals-requires moved-by-requires returns)
+by-hand-spec = tie.close (tie.spec take-requires by-verdict-requires returns)
