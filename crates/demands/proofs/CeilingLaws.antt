@@ -3,7 +3,6 @@ use mathlib.Core.Path.{_≡_, refl, ap}
 use mathlib.Core.List.{List}
 use Prim.Native.Nat.{ℕ}
 use Rattle.circuit.specs.Card.{card}
-use Rattle.circuit.specs.Round.{All}
 use Rattle.sheet.specs.declared.Opened.{Opened}
 use Rattle.sheet.specs.Open.{openCall}
 use Rattle.sheet.proofs.GrammarLaws.{taken-sheet, opened-good}
@@ -25,5 +24,5 @@ ceiling-holds =
       opened = opened-within;
       anywhere = run-anywhere;
       enough = run-enough;
-      sequence = λ sheet limit t cs. run-enough _ (all-leads All (openCall sheet limit .work) cs .keeps (opened-good sheet limit t));
+      sequence = λ sheet limit t cs. run-enough _ (all-leads (openCall sheet limit .work) cs .keeps (opened-good sheet limit t));
     }

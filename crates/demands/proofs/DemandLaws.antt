@@ -1,8 +1,10 @@
 -- The demands hold, and what they say of the sheet that is sent back. Assumes nothing.
 use mathlib.Core.Path.{_≡_, refl, sym, ap, _∙_}
 use mathlib.Core.Logic.{⊎-elim}
+use mathlib.Core.Bool.{false}
 use mathlib.Core.List.{List, [], _∷_, _++_}
 use Prim.Native.Nat.{ℕ, _≤_}
+use Rattle.bitset.proofs.BoolLaws.{clash}
 use Rattle.circuit.specs.declared.card.End.the-variants.{Open}
 use Rattle.circuit.specs.declared.state.Work.{Work}
 use Rattle.circuit.specs.Card.{card}
@@ -16,9 +18,10 @@ use Rattle.sheet.proofs.GrammarLaws.{sheet-taken, taken-sheet, opened-good, ope
 use Rattle.sheet.proofs.FaithfulLaws.{faithful}
 use Rattle.circuit.specs.Round.{All}
 use Rattle.filter.specs.Leads.{Leads}
-use Rattle.filter.proofs.CallLaws.{stay, leads-on, open-none, handCall-leads, runCall-leads}
+use Rattle.filter.proofs.CallLaws.{stay, leads-for, leads-on, open-none, handCall-leads, runCall-leads}
 use Rattle.filter.proofs.RunLaws.{budgets, run-bad}
-use Rattle.demands.specs.Sequence.{Call, calling, running, asking, handed, afterAll}
+use Rattle.cut.proofs.CallLaws.{cut-refused, cut-leads, cut-removed}
+use Rattle.demands.specs.Sequence.{Call, calling, running, cutting, asking, handed, afterAll, DrivesGiven, DrivesAllGiven, isCut, NoCuts}
 use Rattle.demands.specs.Demands.{Demand1, Demand2, Kept, Demand3, SentBack}
 use Rattle.demands.proofs.RefusalLaws.{opening-refused, hand-refused, run-refused, list-refused, report-refused, write-refused}
 use Rattle.filter.proofs.RemovalLaws.{hand-removed, run-removed}
@@ -26,31 +29,48 @@ use Rattle.demands.proofs.CountLaws.{steps-most, open-spent}
 
 -- ---- a list of calls
 
-pub handed-leads : (P : (ℕ → ℕ) → Type 0) (w : Work) (c : Call) → Leads P w (handed w c)
+-- a call keeps the rounds that drive what it was given
+pub handed-leads : (w : Work) (c : Call) → Leads (DrivesGiven w c) w (handed w c)
 unfolding handed
-handed-leads P w (calling r) = handCall-leads P w r
-handed-leads P w (running budget) = runCall-leads P w budget
-handed-leads P w (asking q) = stay P w
+handed-leads w (calling r) = handCall-leads All w r
+handed-leads w (running budget) = runCall-leads All w budget
+handed-leads w (cutting must) = cut-leads w must
+handed-leads w (asking q) = stay All w
 
-pub all-leads : (P : (ℕ → ℕ) → Type 0) (w : Work) (cs : List Call) → Leads P w (afterAll w cs)
+-- a list of calls those that drive what each of them was given
+pub all-leads : (w : Work) (cs : List Call) → Leads (DrivesAllGiven w cs) w (afterAll w cs)
 unfolding afterAll
-all-leads P w [] = stay P w
-all-leads P w (c ∷ cs) = leads-on P w (handed w c) (afterAll (handed w c) cs) (handed-leads P w c) (all-leads P (handed w c) cs)
+all-leads w [] = stay All w
+all-leads w (c ∷ cs) =
+    leads-on (DrivesAllGiven w (c ∷ cs)) w (handed w c) (afterAll (handed w c) cs)
+    (leads-for (λ h d. d .0) (handed-leads w c)) (leads-for (λ h d. d .1) (all-leads (handed w c) cs))
+
+-- without cut steps these are all rounds
+drives-given : (w : Work) (c : Call) → isCut c ≡ false → (h : ℕ → ℕ) → DrivesGiven w c h
+unfolding isCut
+drives-given w (calling r) e h = tt
+drives-given w (running budget) e h = tt
+drives-given w (cutting must) e h = clash e
+drives-given w (asking q) e h = tt
+
+pub drives-all-given : (w : Work) (cs : List Call) → NoCuts cs → (h : ℕ → ℕ) → DrivesAllGiven w cs h
+drives-all-given w [] none h = tt
+drives-all-given w (c ∷ cs) (e, none) h = (drives-given w c e h, drives-all-given (handed w c) cs none h)
 
 all-append : (w : Work) (cs bs : List Call) → afterAll w (cs ++ bs) ≡ afterAll (afterAll w cs) bs
 unfolding afterAll
 all-append w [] bs = refl
 all-append w (c ∷ cs) bs = all-append (handed w c) cs bs
 
-kept : (w : Work) → w .end ≡ Open → (cs : List Call) → Kept w cs
-kept w o cs =
-    let L = all-leads All w cs in
-    record {
-      drivable = λ i j d. ap (leg (rowsOf (afterAll w cs)) i) (sym (d .driven)) ∙ (L .rounds (d .choice) tt (d .round)) .drives i (d .station);
-      none = λ e h r. ⊎-elim (λ f. open-none (sym o ∙ f)) (λ f. f h tt r) (L .none e);
-      missing = λ before later e i j h.
-          all-leads All (afterAll w before) later .sub i j (ap (λ (u : Work). leg (rowsOf u) i j) (sym (ap (afterAll w) e ∙ all-append w before later)) ∙ h);
-    }
+module _ {P : (ℕ → ℕ) → Type 0} (w : Work) (o : w .end ≡ Open) (cs : List Call) (L : Leads P w (afterAll w cs)) where
+  kept : Kept P w cs
+  kept =
+      record {
+        drivable = λ i j d. ap (leg (rowsOf (afterAll w cs)) i) (sym (d .driven)) ∙ (L .rounds (d .choice) (d .member) (d .round)) .drives i (d .station);
+        none = λ e h p r. ⊎-elim (λ f. open-none (sym o ∙ f)) (λ f. f h p r) (L .none e);
+        missing = λ before later e i j h.
+            all-leads (afterAll w before) later .sub i j (ap (λ (u : Work). leg (rowsOf u) i j) (sym (ap (afterAll w) e ∙ all-append w before later)) ∙ h);
+      }
 
 -- ---- the demands
 
@@ -63,6 +83,7 @@ demand1 =
       opening = opening-refused;
       byHand = hand-refused;
       run = run-refused;
+      cut = cut-refused;
       list = list-refused;
       report = report-refused;
       write = write-refused;
@@ -73,18 +94,24 @@ demand2 =
     record {
       removed = hand-removed;
       run-removed = run-removed;
+      cut-removed = cut-removed;
       steps = steps-most;
       spent = open-spent;
-      stations = λ w c. handed-leads All w c .stations;
-      limit = λ w c. handed-leads All w c .limit;
+      stations = λ w c. handed-leads w c .stations;
+      limit = λ w c. handed-leads w c .limit;
       rounds = list-round;
       listed = round-list;
     }
 
+opened-open : (sheet : List ℕ) (limit : ℕ) → openCall sheet limit .answer ≡ card 0 → openCall sheet limit .work .end ≡ Open
+opened-open sheet limit t = ap (λ (r : Opened). r .work .end) (taken-sheet sheet limit t .opened)
+
 pub demand3 : Demand3
 demand3 =
     record {
-      list = λ sheet limit t cs. kept (openCall sheet limit .work) (ap (λ (r : Opened). r .work .end) (taken-sheet sheet limit t .opened)) cs;
+      list = λ sheet limit t cs. let w = openCall sheet limit .work in kept w (opened-open sheet limit t) cs (all-leads w cs);
+      without-cuts = λ sheet limit t cs none.
+          let w = openCall sheet limit .work in kept w (opened-open sheet limit t) cs (leads-for (λ h _. drives-all-given w cs none h) (all-leads w cs));
       budgets = budgets;
       refused = run-bad;
     }
@@ -93,7 +120,7 @@ demand3 =
 
 all-whole : (sheet : List ℕ) (limit : ℕ) → openCall sheet limit .answer ≡ card 0 → (cs : List Call) → Whole (afterAll (openCall sheet limit .work) cs)
 all-whole sheet limit t cs =
-    let L = all-leads All (openCall sheet limit .work) cs in
+    let L = all-leads (openCall sheet limit .work) cs in
     record { good = L .keeps (opened-good sheet limit t); long = L .long (opened-long sheet limit) }
 
 pub sent-back : (sheet : List ℕ) (limit : ℕ) → openCall sheet limit .answer ≡ card 0 → (cs : List Call) (l : ℕ) → 1 ≤ l → l ≤ 64

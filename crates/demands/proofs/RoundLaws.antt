@@ -12,7 +12,7 @@ use lib.Seq.{ext-getD}
 use Rattle.bitset.proofs.QuantLaws.{below?}
 use Rattle.circuit.specs.declared.state.Work.{Work}
 use Rattle.circuit.specs.Card.{card}
-use Rattle.circuit.specs.Round.{RoundOf, All}
+use Rattle.circuit.specs.Round.{RoundOf, All, NoneIn}
 use Rattle.circuit.specs.State.{rowsOf, Good}
 use Rattle.circuit.specs.Check.{choiceOf, Numbers, ListsRound}
 use Rattle.circuit.proofs.StateLaws.{not-bad}
@@ -21,17 +21,18 @@ use Rattle.circuit.proofs.Turn.{round-on}
 use Rattle.sheet.specs.Open.{openCall}
 use Rattle.sheet.proofs.GrammarLaws.{opened-good, opened-long}
 use Rattle.filter.specs.Leads.{Leads}
+use Rattle.filter.proofs.CallLaws.{leads-for}
 use Rattle.finder.specs.declared.outcome.Outcome.the-variants.{Found, NoRound}
 use Rattle.finder.specs.Search.{children, settled, decided, listIn, leaf, searchFrom, whole}
 use Rattle.finder.specs.Call.{outcomeOf, nodesOf, listAfter, firstCall, firstList}
 use Rattle.finder.specs.First.{Before, First}
-use Rattle.finder.specs.Claims.{NoneOf, Finds}
+use Rattle.finder.specs.Claims.{Finds}
 use Rattle.finder.proofs.CallLaws.{finds}
-use Rattle.demands.specs.Sequence.{Call, afterAll}
+use Rattle.demands.specs.Sequence.{Call, afterAll, NoCuts}
 use Rattle.demands.specs.Definitions.{definitions}
 use Rattle.demands.specs.Examples.{listed, begun, nineLegs, butterfly}
-use Rattle.demands.specs.Rounds.{FirstAfter, seeks, fullOfThree, catalogue, secondChild, noChild, searches}
-use Rattle.demands.proofs.DemandLaws.{all-leads}
+use Rattle.demands.specs.Rounds.{FirstAfter, SearchAfter, seeks, fullOfThree, catalogue, secondChild, noChild, searches}
+use Rattle.demands.proofs.DemandLaws.{all-leads, drives-all-given}
 
 -- ---- one round is the first, and one list names it
 
@@ -59,52 +60,55 @@ same-list n s r S R e =
 -- ---- after a list of calls
 
 module _ (w : Work) (g : Good w) (long : length (rowsOf w) ≡ 64) (old : List ℕ) (fits : length old ≡ w .n) where
-  module _ (cs : List Call) (b : ℕ) where
+  module _ {P : (ℕ → ℕ) → Type 0} (cs : List Call) (L : Leads P w (afterAll w cs)) (b : ℕ) where
     abbrev u : Work
     u = afterAll w cs
 
     abbrev Finding : Type 0
     Finding = firstCall u b old .outcome ≡ Found
 
-    kept : Leads All w u
-    kept = all-leads All w cs
-
     told : Finds u b (firstCall u b old) (firstList u b old)
-    told = finds u b old (not-bad u (kept .keeps g)) (kept .long long) (fits ∙ sym (kept .stations))
+    told = finds u b old (not-bad u (L .keeps g)) (L .long long) (fits ∙ sym (L .stations))
 
     -- a round of the table that is left is one of the opened table
     was-round : (h : ℕ → ℕ) → RoundOf (w .n) (rowsOf u) h → RoundOf (w .n) (rowsOf w) h
-    was-round h r = round-on r (λ i l. kept .sub i (h i) (r .drives i l))
+    was-round h r = round-on r (λ i l. L .sub i (h i) (r .drives i l))
 
-    is-first : Finding → First (w .n) (rowsOf w) (choiceOf (firstList u b old))
+    is-first : Finding → First P (w .n) (rowsOf w) (choiceOf (firstList u b old))
     is-first e =
-        let f = subst (λ (n : ℕ). First n (rowsOf u) (choiceOf (firstList u b old))) (kept .stations) (told .found e) in
-        record { round = was-round (choiceOf (firstList u b old)) (f .round); first = λ y r. f .first y (kept .rounds y tt r) }
+        let f = subst (λ (n : ℕ). First All n (rowsOf u) (choiceOf (firstList u b old))) (L .stations) (told .found e) in
+        record { round = was-round (choiceOf (firstList u b old)) (f .round); first = λ y p r. f .first y tt (L .rounds y p r) }
 
     lists : Finding → ListsRound (w .n) (rowsOf w) (firstList u b old)
     lists e =
-        let r = subst (λ (n : ℕ). ListsRound n (rowsOf u) (firstList u b old)) (kept .stations) (list-round u (firstList u b old) (told .passes e) .1) in
+        let r = subst (λ (n : ℕ). ListsRound n (rowsOf u) (firstList u b old)) (L .stations) (list-round u (firstList u b old) (told .passes e) .1) in
         record { numbers = r .numbers; round = was-round (choiceOf (firstList u b old)) (r .round) }
 
-    no-round : firstCall u b old .outcome ≡ NoRound → NoneOf (w .n) (rowsOf w)
-    no-round e h r = told .none e .0 h (subst (λ (n : ℕ). RoundOf n (rowsOf u) h) (sym (kept .stations)) (kept .rounds h tt r))
+    no-round : firstCall u b old .outcome ≡ NoRound → NoneIn P (w .n) (rowsOf w)
+    no-round e h p r = told .none e .0 h tt (subst (λ (n : ℕ). RoundOf n (rowsOf u) h) (sym (L .stations)) (L .rounds h p r))
 
-  after : (cs : List Call) (b : ℕ) → FirstAfter w cs b old
-  after cs b =
+    after : FirstAfter P w cs b old
+    after = record { found = is-first; passes = λ e. round-list w (firstList u b old) g (lists e); none = no-round }
+
+  -- without cut steps
+  all : (cs : List Call) → NoCuts cs → Leads All w (afterAll w cs)
+  all cs none = leads-for (λ h _. drives-all-given w cs none h) (all-leads w cs)
+
+  searches-after : SearchAfter w old
+  searches-after =
       record {
-        found = is-first cs b;
-        passes = λ e. round-list w (firstList (afterAll w cs) b old) g (lists cs b e);
-        none = no-round cs b;
-        same = λ ds c e q.
-            let x = is-first cs b e in
-            let y = is-first ds c q in
-            same-list (w .n) (firstList (afterAll w cs) b old) (firstList (afterAll w ds) c old) (lists cs b e .numbers) (lists ds c q .numbers)
-            (before-both (w .n) (choiceOf (firstList (afterAll w cs) b old)) (choiceOf (firstList (afterAll w ds) c old)) (x .first _ (y .round)) (y .first _ (x .round)));
+        list = λ cs b. after cs (all-leads w cs) b;
+        without-cuts = λ cs b none. after cs (all cs none) b;
+        same = λ cs ds b c n m e q.
+            let x = is-first cs (all cs n) b e in
+            let y = is-first ds (all ds m) c q in
+            same-list (w .n) (firstList (afterAll w cs) b old) (firstList (afterAll w ds) c old) (lists cs (all cs n) b e .numbers) (lists ds (all ds m) c q .numbers)
+            (before-both (w .n) (choiceOf (firstList (afterAll w cs) b old)) (choiceOf (firstList (afterAll w ds) c old)) (x .first _ tt (y .round)) (y .first _ tt (x .round)));
       }
 
-pub first-after : (sheet : List ℕ) (limit : ℕ) → openCall sheet limit .answer ≡ card 0 → (cs : List Call) (b : ℕ) (old : List ℕ)
-    → length old ≡ openCall sheet limit .work .n → FirstAfter (openCall sheet limit .work) cs b old
-first-after sheet limit t cs b old fits = after (openCall sheet limit .work) (opened-good sheet limit t) (opened-long sheet limit) old fits cs b
+pub first-after : (sheet : List ℕ) (limit : ℕ) → openCall sheet limit .answer ≡ card 0 → (old : List ℕ) → length old ≡ openCall sheet limit .work .n
+    → SearchAfter (openCall sheet limit .work) old
+first-after sheet limit t old fits = searches-after (openCall sheet limit .work) (opened-good sheet limit t) (opened-long sheet limit) old fits
 
 -- ---- the examples, by computation
 

@@ -5,7 +5,6 @@ use Prim.Native.Nat.{ℕ, _+_, _≤_}
 use Rattle.circuit.specs.declared.card.End.the-variants.{Stable}
 use Rattle.circuit.specs.declared.state.Work.{Work}
 use Rattle.circuit.specs.Card.{card}
-use Rattle.circuit.specs.Round.{All}
 use Rattle.circuit.specs.State.{rowsOf, fresh}
 use Rattle.sheet.specs.declared.Opened.{Opened}
 use Rattle.sheet.specs.Open.{openCall}
@@ -14,7 +13,8 @@ use Rattle.sheet.proofs.GrammarLaws.{taken-sheet, opened-good, opened-long}
 use Rattle.filter.specs.Calls.{runCall}
 use Rattle.filter.specs.Stable.{anew, CycleInvariant}
 use Rattle.filter.proofs.StableLaws.{begun-invariant, hand-invariant, run-invariant, stable-means}
-use Rattle.demands.specs.Sequence.{Call, calling, running, asking, handed, afterAll}
+use Rattle.cut.proofs.CallLaws.{cut-invariant}
+use Rattle.demands.specs.Sequence.{Call, calling, running, cutting, asking, handed, afterAll}
 use Rattle.demands.specs.Stable.{StableAfter}
 use Rattle.demands.proofs.DemandLaws.{all-leads, sent-back}
 
@@ -23,6 +23,7 @@ pub handed-invariant : (w : Work) (c : Call) → CycleInvariant w → CycleInvar
 unfolding handed
 handed-invariant w (calling r) I = hand-invariant w r I
 handed-invariant w (running budget) I = run-invariant w budget I
+handed-invariant w (cutting must) I = cut-invariant w must I
 handed-invariant w (asking q) I = I
 
 pub all-invariant : (w : Work) (cs : List Call) → CycleInvariant w → CycleInvariant (afterAll w cs)
@@ -47,7 +48,7 @@ module _ (sheet : List ℕ) (limit : ℕ) (t : openCall sheet limit .answer ≡ 
   back-anew cs =
       let g = opened-good sheet limit t in
       ap (λ (o : Opened). o .work) (sent-back sheet limit t cs (w .limit) (g .limit-least) (g .limit-most) .opens)
-      ∙ ap (fresh (afterAll w cs .n) (rowsOf (afterAll w cs))) (sym (all-leads All w cs .limit))
+      ∙ ap (fresh (afterAll w cs .n) (rowsOf (afterAll w cs))) (sym (all-leads w cs .limit))
 
   pub stable-after : (cs : List Call) → afterAll w cs .end ≡ Stable → StableAfter w cs
   stable-after cs e =
@@ -55,5 +56,5 @@ module _ (sheet : List ℕ) (limit : ℕ) (t : openCall sheet limit .answer ≡ 
       record {
         means = M;
         sent-back = λ budget h.
-            ap (λ (u : Work). runCall u budget) (back-anew cs) ∙ M .again budget (subst (λ (n : ℕ). n + 2 ≤ budget) (sym (all-leads All w cs .stations)) h);
+            ap (λ (u : Work). runCall u budget) (back-anew cs) ∙ M .again budget (subst (λ (n : ℕ). n + 2 ≤ budget) (sym (all-leads w cs .stations)) h);
       }

@@ -7,7 +7,7 @@ use Rattle.circuit.specs.declared.state.Work.{Work}
 use Rattle.filter.specs.declared.cycle.Ran.{Ran}
 use Rattle.filter.specs.Calls.{runCall}
 use Rattle.filter.proofs.TurnLaws.{run-sum, run-nothing}
-use Rattle.demands.specs.Sequence.{Call, calling, running, asking, handed, afterAll}
+use Rattle.demands.specs.Sequence.{Call, calling, running, cutting, asking, handed, afterAll}
 use Rattle.demands.specs.Turns.{isByHand, budgetOf, budgetsOf, OneRun}
 
 -- a run with budget 0 hands back the state that it was given
@@ -19,6 +19,7 @@ pub handed-run : (w : Work) (c : Call) → isByHand c ≡ false → handed w c �
 unfolding handed isByHand budgetOf
 handed-run w (calling r) e = clash e
 handed-run w (running budget) e = refl
+handed-run w (cutting must) e = clash e
 handed-run w (asking q) e = nothing-run w
 
 pub one-run : (w : Work) (cs : List Call) → OneRun w cs

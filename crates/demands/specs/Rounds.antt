@@ -8,25 +8,33 @@ use lib.ListN.{replicate}
 use Rattle.bitset.specs.Sets.{all}
 use Rattle.bitset.specs.Upto.{row}
 use Rattle.circuit.specs.declared.state.Work.{Work}
+use Rattle.circuit.specs.Round.{All, NoneIn}
 use Rattle.circuit.specs.State.{rowsOf}
 use Rattle.circuit.specs.Check.{choiceOf, checkCall}
 use Rattle.finder.specs.declared.outcome.Outcome.{Outcome}
 use Rattle.finder.specs.declared.outcome.Outcome.the-variants.{Found, NoRound, UsedUp}
 use Rattle.finder.specs.Call.{outcomeCode, firstCall, firstList}
 use Rattle.finder.specs.First.{First}
-use Rattle.finder.specs.Claims.{NoneOf}
-use Rattle.demands.specs.Sequence.{Call, afterAll}
+use Rattle.demands.specs.Sequence.{Call, afterAll, DrivesAllGiven, NoCuts}
 use Rattle.demands.specs.Examples.{Start, table, sheet, leg, begun, nineLegs, butterfly}
 
--- of the list of calls cs, from the opened state w: the search after it, with a node budget b and a lent list that is n long
-pub record FirstAfter (w : Work) (cs : List Call) (b : ℕ) (old : List ℕ) : Type 0 where
-  -- found: the list names the first round of the opened table, and passes the list check on the opened state
-  pub found : firstCall (afterAll w cs) b old .outcome ≡ Found → First (w .n) (rowsOf w) (choiceOf (firstList (afterAll w cs) b old))
+-- of the list of calls cs, from the opened state w, and a class P of rounds: the search after it, with a node budget b and a lent list that
+-- is n long
+pub record FirstAfter (P : (ℕ → ℕ) → Type 0) (w : Work) (cs : List Call) (b : ℕ) (old : List ℕ) : Type 0 where
+  -- found: the list names a round of the opened table that none of the class comes before, and passes the list check on the opened state
+  pub found : firstCall (afterAll w cs) b old .outcome ≡ Found → First P (w .n) (rowsOf w) (choiceOf (firstList (afterAll w cs) b old))
   pub passes : firstCall (afterAll w cs) b old .outcome ≡ Found → checkCall w (firstList (afterAll w cs) b old) .yes ≡ true
-  -- no round is said only where the opened table has none
-  pub none : firstCall (afterAll w cs) b old .outcome ≡ NoRound → NoneOf (w .n) (rowsOf w)
-  -- so after other calls, or none, and with another budget the found list is the same
-  pub same : (ds : List Call) (c : ℕ) → firstCall (afterAll w cs) b old .outcome ≡ Found → firstCall (afterAll w ds) c old .outcome ≡ Found
+  -- no round is said only where the opened table has none of the class
+  pub none : firstCall (afterAll w cs) b old .outcome ≡ NoRound → NoneIn P (w .n) (rowsOf w)
+
+-- of searches after lists of calls from the opened state w, with lent lists that are n long
+pub record SearchAfter (w : Work) (old : List ℕ) : Type 0 where
+  -- the rounds are those that drive every must-drive road given to the cut steps of the list that were not refused
+  pub list : (cs : List Call) (b : ℕ) → FirstAfter (DrivesAllGiven w cs) w cs b old
+  -- in a list without cut steps all rounds: found is the first round of the opened table, no round is said only where that has none
+  pub without-cuts : (cs : List Call) (b : ℕ) → NoCuts cs → FirstAfter All w cs b old
+  -- so after other such calls, or none, and with another budget the found list is the same
+  pub same : (cs ds : List Call) (b c : ℕ) → NoCuts cs → NoCuts ds → firstCall (afterAll w cs) b old .outcome ≡ Found → firstCall (afterAll w ds) c old .outcome ≡ Found
       → firstList (afterAll w cs) b old ≡ firstList (afterAll w ds) c old
 
 -- ---- examples

@@ -7,7 +7,7 @@ use lib.Dec.{eqb}
 use Rattle.circuit.specs.declared.state.Work.{Work}
 use Rattle.circuit.specs.Card.{isWord}
 use Rattle.circuit.specs.Legs.{legs}
-use Rattle.circuit.specs.Round.{RoundOf, Drivable}
+use Rattle.circuit.specs.Round.{RoundOf, All, Drivable}
 use Rattle.circuit.specs.State.{rowsOf}
 use Rattle.sheet.specs.Open.{openCall}
 use Rattle.sheet.specs.Write.{sheetOf}
@@ -46,4 +46,4 @@ pub record NoPromise : Type 0 where
   -- it has no round
   pub none : (h : ℕ → ℕ) → RoundOf 10 (rowsOf (begun petersen)) h → ⊥
   -- so none of the legs that are left can be driven
-  pub undriven : (i j : ℕ) → Drivable 10 (rowsOf (begun petersen)) i j → ⊥
+  pub undriven : (i j : ℕ) → Drivable All 10 (rowsOf (begun petersen)) i j → ⊥

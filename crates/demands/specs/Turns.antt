@@ -6,18 +6,20 @@ use Prim.Native.Nat.{ℕ, _+_}
 use Rattle.bitset.specs.Upto.{Each}
 use Rattle.circuit.specs.declared.state.Work.{Work}
 use Rattle.filter.specs.Calls.{runCall}
-use Rattle.demands.specs.Sequence.{Call, calling, running, asking, afterAll}
+use Rattle.demands.specs.Sequence.{Call, calling, running, cutting, asking, afterAll}
 
--- a call by hand: a sweep, a chain step or a pass
+-- a call by hand: a sweep, a chain step, a pass or a cut step
 unfoldable pub isByHand : Call → Bool
 isByHand (calling r) = true
 isByHand (running budget) = false
+isByHand (cutting must) = true
 isByHand (asking q) = false
 
 -- the budget that a call gives to runs
 unfoldable pub budgetOf : Call → ℕ
 budgetOf (calling r) = 0
 budgetOf (running budget) = budget
+budgetOf (cutting must) = 0
 budgetOf (asking q) = 0
 
 -- the sum of the budgets of a list of calls

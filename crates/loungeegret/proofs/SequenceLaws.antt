@@ -19,7 +19,10 @@ use Rattle.filter.specs.declared.cycle.Ran.{Ran}
 use Rattle.filter.specs.Calls.{handCall, runCall}
 use Rattle.circuit.specs.Round.{All}
 use Rattle.filter.proofs.CallLaws.{handCall-leads, runCall-leads}
-use Rattle.demands.specs.Sequence.{Call, calling, running, asking, handed, afterAll}
+use Rattle.cut.specs.declared.CutCalled.{CutCalled}
+use Rattle.cut.specs.Call.{cutCall}
+use Rattle.cut.proofs.CallLaws.{cut-refused, cut-leads}
+use Rattle.demands.specs.Sequence.{Call, calling, running, cutting, asking, handed, afterAll}
 use Rattle.demands.specs.Demands.{Refusal}
 use Rattle.demands.proofs.RefusalLaws.{hand-refused, run-refused}
 use Rattle.loungeegret.specs.Words.{stateWords, outOfRange, loaded, stored, storedIn}
@@ -89,6 +92,10 @@ handed-holds o s w H (running budget) =
     subst (λ (v : Work). Holds o (wordsBack s (runCall v budget .answer) (runCall v budget .work)) (runCall w budget .work)) (sym (H .is))
     (back-holds o s w H (runCall w budget .answer) (runCall w budget .work)
     (λ e. ap (λ (c : Ran). c .work) (run-refused w budget (refusal (runCall w budget .answer) e))) (runCall-leads All w budget .long (H .long)))
+handed-holds o s w H (cutting must) =
+    subst (λ (v : Work). Holds o (wordsBack s (cutCall v must .answer) (cutCall v must .work)) (cutCall w must .work)) (sym (H .is))
+    (back-holds o s w H (cutCall w must .answer) (cutCall w must .work)
+    (λ e. ap (λ (c : CutCalled). c .work) (cut-refused w must (refusal (cutCall w must .answer) e))) (cut-leads w must .long (H .long)))
 handed-holds o s w H (asking q) = H
 
 pub all-hold : (o s : List ℕ) (w : Work) → Holds o s w → (cs : List Call) → Holds o (wordsAll s cs) (afterAll w cs)

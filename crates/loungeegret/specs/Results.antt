@@ -1,16 +1,18 @@
 -- What the calls leave with a caller in another language: the number, the lent words and bytes, and what is written through pointers.
 -- In a record of a call, s is the lent state and r the number; of what the call may write, x is there before it and x₁ after it.
 use mathlib.Core.Path.{_≡_}
-use mathlib.Core.Bool.{Bool, not, cond}
-use mathlib.Core.List.{List}
+use mathlib.Core.Bool.{Bool, not, cond, _||_}
+use mathlib.Core.List.{List, _++_}
 use Prim.Native.Nat.{ℕ}
-use lib.Dec.{eqb}
+use lib.Dec.{eqb, ltb}
+use lib.ListN.{length, drop}
 use Rattle.bitset.specs.Sets.{digit}
 use Rattle.circuit.specs.declared.card.Answer.{Answer}
 use Rattle.circuit.specs.declared.state.Work.{Work}
 use Rattle.sheet.specs.declared.Opened.{Opened}
 use Rattle.filter.specs.declared.hand.Called.{Called}
 use Rattle.filter.specs.declared.cycle.Ran.{Ran}
+use Rattle.cut.specs.declared.CutCalled.{CutCalled}
 use Rattle.circuit.specs.declared.list.Checked.{Checked}
 use Rattle.circuit.specs.declared.filled.Filled.{Filled}
 use Rattle.finder.specs.declared.outcome.Sought.{Sought}
@@ -54,6 +56,17 @@ pub record RunResult (c : Ran) (s s₁ : List ℕ) (m m₁ k k₁ r : ℕ) : Typ
   pub words : s₁ ≡ onState s s (wordsAfter s (c .answer) (c .work))
   pub steps : m₁ ≡ onState s m (c .steps)
   pub removed : k₁ ≡ onState s k (c .removed)
+
+-- what a call on the lent words s and a lent table m makes of x: with too few words for either it writes nothing
+unfoldable pub onTables : {A : Type 0} → List ℕ → List ℕ → A → A → A
+onTables s m x x₁ = cond (tooFew s || ltb (length m) 64) x x₁
+
+-- the cut step: m is the lent table of must-drive roads, and what follows its 64 words stays
+pub record CutResult (c : CutCalled) (s s₁ m m₁ : List ℕ) (k k₁ r : ℕ) : Type 0 where
+  pub number : r ≡ onTables s m noState (number (c .answer))
+  pub words : s₁ ≡ onTables s m s (wordsAfter s (c .answer) (c .work))
+  pub must : m₁ ≡ onTables s m m (c .must ++ drop 64 m)
+  pub removed : k₁ ≡ onTables s m k (c .removed)
 
 -- the list check
 pub record CheckResult (c : Checked) (s : List ℕ) (y y₁ r : ℕ) : Type 0 where

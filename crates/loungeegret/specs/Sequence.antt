@@ -7,7 +7,8 @@ use Rattle.circuit.specs.declared.card.Answer.{Answer}
 use Rattle.circuit.specs.declared.state.Work.{Work}
 use Rattle.sheet.specs.Open.{openCall}
 use Rattle.filter.specs.Calls.{handCall, runCall}
-use Rattle.demands.specs.Sequence.{Call, calling, running, asking, afterAll}
+use Rattle.cut.specs.Call.{cutCall}
+use Rattle.demands.specs.Sequence.{Call, calling, running, cutting, asking, afterAll}
 use Rattle.loungeegret.specs.Words.{stateWords, loaded, storedIn}
 use Rattle.loungeegret.specs.Results.{onState, wordsAfter}
 
@@ -15,7 +16,7 @@ use Rattle.loungeegret.specs.Results.{onState, wordsAfter}
 unfoldable pub openedWords : List ℕ → List ℕ → ℕ → List ℕ
 openedWords s sheet limit = onState s s (storedIn s (openCall sheet limit .work))
 
--- the words after a call that answers a and hands back w, as `CallResult` and `RunResult` say
+-- the words after a call that answers a and hands back w, as `CallResult`, `RunResult` and, where the lent table suffices, `CutResult` say
 abbrev pub wordsBack : List ℕ → Answer → Work → List ℕ
 wordsBack s a w = onState s s (wordsAfter s a w)
 
@@ -23,6 +24,7 @@ wordsBack s a w = onState s s (wordsAfter s a w)
 unfoldable pub wordsHanded : List ℕ → Call → List ℕ
 wordsHanded s (calling r) = wordsBack s (handCall (loaded s) r .answer) (handCall (loaded s) r .work)
 wordsHanded s (running budget) = wordsBack s (runCall (loaded s) budget .answer) (runCall (loaded s) budget .work)
+wordsHanded s (cutting must) = wordsBack s (cutCall (loaded s) must .answer) (cutCall (loaded s) must .work)
 wordsHanded s (asking q) = s
 
 -- and after a list of calls

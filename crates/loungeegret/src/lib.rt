@@ -1,6 +1,7 @@
 // The library for other languages. The work state lies in words that the caller lends: a call loads it, makes the call of the
 // crate below and puts the state that comes back into the same words. A call on too few words for a state answers a number
 // that the card has not, and writes nothing; so no call requires anything of its caller.
+mod cutting;
 mod first;
 
 use circuit::Answer;
@@ -61,7 +62,7 @@ fn out_of_range(state: &[u64]) -> bool
 }
 
 fn load_rows(state: &[u64]) -> [u64; 64]
-    requires { ⌜ stateWords ≤ length (now state) ⌝ }
+    requires { ⌜ 64 ≤ length (now state) ⌝ }
     ensures { λ r. ⌜ r ≡ take 64 (now (state .entry)) ⌝ }
 {
     let mut rows = [0u64; 64];
@@ -108,7 +109,7 @@ fn load(state: &[u64]) -> Work
 }
 
 fn store_rows(state: &mut [u64], rows: &[u64; 64])
-    requires { ⌜ (stateWords ≤ length (now state)) × (length (now rows) ≡ 64) ⌝ }
+    requires { ⌜ (64 ≤ length (now state)) × (length (now rows) ≡ 64) ⌝ }
     ensures { λ _. ⌜ now (state .exit) ≡ now (rows .entry) ++ drop 64 (now (state .entry)) ⌝ }
 {
     let mut i = 0usize;

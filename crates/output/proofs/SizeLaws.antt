@@ -9,14 +9,13 @@ use borrow.Author.Tests.{eqb-true}
 use Rattle.bitset.proofs.BoolLaws.{cond-elim}
 use Rattle.writer.specs.Text.{ascii}
 use Rattle.writer.proofs.NumberLaws.{decimal-length}
-use Rattle.circuit.specs.declared.card.Answer.{Answer}
-use Rattle.circuit.specs.declared.card.Answer.the-variants.{Taken, CutSheet, BadCount, UnknownBit, StrayStation, Overhang, BadLimit, BadWork, StraySeed, WrongLength, NoRoom}
 use Rattle.circuit.specs.declared.card.End.{End}
 use Rattle.circuit.specs.declared.card.End.the-variants.{Open, Stable, None}
 use Rattle.circuit.specs.declared.state.Work.{Work}
 use Rattle.circuit.specs.Card.{number, word}
 use Rattle.circuit.specs.Legs.{legs}
 use Rattle.circuit.specs.State.{isNone, rowsOf, Good}
+use Rattle.circuit.proofs.CardLaws.{number-most}
 use Rattle.circuit.proofs.StateLaws.{good-legs}
 use Rattle.circuit.specs.Round.{All}
 use Rattle.sheet.specs.declared.Opened.{Opened}
@@ -76,19 +75,6 @@ taken-most w g =
 
 -- ---- a refused sheet
 
-number-most : (a : Answer) → number a ≤ 10
-number-most Taken = omega arith
-number-most CutSheet = omega arith
-number-most BadCount = omega arith
-number-most UnknownBit = omega arith
-number-most StrayStation = omega arith
-number-most Overhang = omega arith
-number-most BadLimit = omega arith
-number-most BadWork = omega arith
-number-most StraySeed = omega arith
-number-most WrongLength = omega arith
-number-most NoRoom = omega arith
-
 -- the place is one in the sheet, so by its first bytes one of at most four digits
 place-within : (s : List ℕ) → openCall s 64 .at ≤ length s
 unfolding openCall opened
@@ -101,7 +87,7 @@ place-within s = go (readPage s)
 place-most : (s : List ℕ) → openCall s 64 .at ≤ 1154
 place-most s = omega (arith, place-within (take 1154 s), ap (λ (o : Opened). o .at) (first-bytes-suffice s 64), length-take 1154 s)
 
-refused-most : (k at : ℕ) → k ≤ 10 → at ≤ 1154 → length (refusedLine k at) ≤ 19
+refused-most : (k at : ℕ) → k ≤ 99 → at ≤ 1154 → length (refusedLine k at) ≤ 19
 unfolding refusedLine
 refused-most k at a b =
     let number = decimal-length 1 k (omega arith) in
