@@ -37,7 +37,9 @@ enum loungeegret_number {
     LOUNGEEGRET_STRAY_SEED = 8,    /* the seed is 0 or above n */
     LOUNGEEGRET_WRONG_LENGTH = 9,  /* the list has not n numbers */
     LOUNGEEGRET_NO_ROOM = 10,      /* the buffer is shorter than the text or the sheet */
-    LOUNGEEGRET_NO_STATE = 100     /* the lent words are fewer than LOUNGEEGRET_STATE_WORDS */
+    LOUNGEEGRET_NOT_TWO_WAY = 11,  /* fewer than 3 stations, or a leg without its reverse */
+    LOUNGEEGRET_STRAY_ROAD = 12,   /* a must-drive road does not stand, or is given one way only */
+    LOUNGEEGRET_NO_STATE = 100     /* the lent words are fewer than LOUNGEEGRET_STATE_WORDS, or a lent table's fewer than 64 */
 };
 
 /*
@@ -56,7 +58,7 @@ enum {
 enum loungeegret_end {
     LOUNGEEGRET_OPEN = 0,
     LOUNGEEGRET_STABLE = 1, /* no step strikes anything more; not that there is a round (see loungeegret_run) */
-    LOUNGEEGRET_NONE = 2    /* there is no round */
+    LOUNGEEGRET_NONE = 2    /* there is no round; after a cut step with must-drive roads, none that drives them (see loungeegret_cut) */
 };
 
 /*
@@ -121,14 +123,15 @@ uint32_t loungeegret_pass(uint64_t *state, size_t state_length, size_t seed, uin
  * Short turns: with a smaller budget, where the end is still LOUNGEEGRET_OPEN the budget is used up, and the same call again goes on
  * from there. Turns leave the words that one run with the sum of their budgets leaves, what they write to `*steps` and `*removed`
  * adds up to what it writes, and each answers the number that it answers; a run with budget 0 changes no word (proved: turns-add).
- * List checks, searches, reports and written sheets may come between turns, a sweep, a chain step or a pass by hand may not. Longer
- * turns are cheaper: what a run learns of passes that change nothing is forgotten where a turn ends.
+ * List checks, searches, reports and written sheets may come between turns, a sweep, a chain step, a pass or a cut step by hand may
+ * not. Longer turns are cheaper: what a run learns of passes that change nothing is forgotten where a turn ends.
  *
  * What stable means: after a taken opening and any calls on the same words, where the end is LOUNGEEGRET_STABLE, no sweep, chain
  * step or pass strikes anything more, with any seed. Each answers LOUNGEEGRET_TAKEN, or LOUNGEEGRET_STRAY_SEED where the seed is
  * stray, removes 0 legs and changes no word; a run takes no step. Where place, mark and end are put back to 0, 0 and
  * LOUNGEEGRET_OPEN, a run with a budget of n + 2 or more takes n + 2 steps, removes nothing and leaves the words as they were (proved:
- * stable-words). So does a run from the sheet of what is left, opened with the same limit (stable-after).
+ * stable-words). So does a run from the sheet of what is left, opened with the same limit (stable-after). Cut steps may have been
+ * among the calls; one that follows may still strike legs.
  *
  * Stable does not promise a round, and legs that no round drives may be left: the Petersen graph, 10 stations and 30 legs, ends
  * stable after 12 steps with nothing removed, and has no round (no-promise). Whether there is one, loungeegret_first_round tells. Of
@@ -136,6 +139,39 @@ uint32_t loungeegret_pass(uint64_t *state, size_t state_length, size_t seed, uin
  */
 uint32_t loungeegret_run(uint64_t *state, size_t state_length, uint32_t budget,
                          uint32_t *steps, uint32_t *removed);
+
+/*
+ * A cut step by hand, on a two-way network: at least 3 stations, and with each leg its reverse. Such a pair is a road, driven by
+ * either leg. `must` has LOUNGEEGRET_ROWS words or more: the table of must-drive roads in the form of the leg table, each road in
+ * both directions; words after it keep their contents. It says which rounds count: those that drive all its roads.
+ *
+ * Where the stations are split into two groups, neither empty, the roads between these are a cut. A cut of no road, of one road, or
+ * of three roads that are all must-drive makes the end none. Otherwise both roads of every cut of two roads become must-drive, and
+ * are put into `must`; and the third road of every cut of three roads of which exactly two were given as must-drive goes, in both
+ * directions; all together. Where one road would do both, the end becomes none. With none both tables stay. `*removed` is the number
+ * of legs, two for each road that went. Where only `must` grew, the state does not change; where the end was none before, nothing
+ * changes.
+ *
+ * Refused are a bad state (7), a table that is not two-way (11) and a stray must-drive road (12: it does not stand, or is given one
+ * way only), in this order, also where the end is none; then no word changes and `*removed` is 0. Fewer words than a state or a
+ * table has are answered by 100.
+ *
+ * What to do next: call it again with the same `must` until no leg goes and `must` does not change, since a road that became
+ * must-drive counts from the next call on; where legs went, a run in between may strike more. The step is not part of a run. A run
+ * strikes legs one way only, so after it the table may not be two-way any more (11), or a must-drive road may not stand (12): then
+ * there are no cut steps left to make.
+ *
+ * Every round that drives all the given must-drive roads survives and drives all the new ones, and the end becomes none only where
+ * there is no such round (proved: cut-keeps). After an opening and any calls on the same words no leg is lost that such a round
+ * drives, of the roads given to the cut steps that were not refused (demand3). So start with an empty table to count all rounds, and
+ * hand it back as it comes: then none means that there is no round, and the round that loungeegret_first_round finds is the first of
+ * the opened table (fed-back). With roads of your own, roads that the round has to use, a round without them may be struck.
+ */
+enum {
+    LOUNGEEGRET_ROWS = 64
+};
+uint32_t loungeegret_cut(uint64_t *state, size_t state_length, uint64_t *must, size_t must_length,
+                         uint32_t *removed);
 
 /*
  * `*yes` is 1 where the n numbers of the list, one byte each, are a round and each of its legs stands: after station i comes the
@@ -174,7 +210,9 @@ enum {
  *
  * After a taken opening and any calls on the same words, whatever they struck and however a run ended, the round that is found is
  * the first of the opened table, and no round is said only where the opened table has none (proved: first-words). So the list is
- * the same before a run and after it; of the number of nodes that is not said.
+ * the same before a run and after it; of the number of nodes that is not said. After cut steps with must-drive roads of the
+ * caller's own, it is a round of the opened table that none which drives those comes before, and no round is said only where there
+ * is none which drives those.
  *
  * Which budget: a search that finds enters at least n + 1 nodes (finds), and on most tables that were measured hardly more. But
  * there are tables where 100000 are not enough, among them grids whose stations are numbered at random, and a node can take as long

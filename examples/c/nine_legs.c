@@ -1,9 +1,10 @@
 /*
- * Prunes a sheet, the one in the file that is named or else the sheet of nine legs. Prints how the run ended and, unless that is
- * none, the station lines and the first round; where a second file is named, the sheet of what is left goes there. The exit status
- * is that of ./prune: 0 pruned, 1 refused, 2 something failed, 3 the end none.
+ * Prunes a sheet, the one in the file that is named or else the sheet of nine legs, by cut steps, where the network is two-way, and
+ * a run. Prints how the run ended and, unless that is none, the station lines and the first round; where a second file is named,
+ * the sheet of what is left goes there. The exit status is that of ./prune: 0 pruned, 1 refused, 2 something failed, 3 the end none.
  */
 #include <stdio.h>
+#include <string.h>
 
 #include "loungeegret.h"
 
@@ -65,7 +66,7 @@ static int print_round(const uint64_t *state)
     size_t n = state[LOUNGEEGRET_N];
     uint32_t outcome = LOUNGEEGRET_REFUSED, nodes = 0;
 
-    /* What the run struck makes no difference: it is the first round of the opened sheet. */
+    /* What was struck makes no difference: it is the first round of the opened sheet. */
     if (loungeegret_first_round(state, LOUNGEEGRET_STATE_WORDS, NODE_BUDGET, list, n, &outcome, &nodes) != LOUNGEEGRET_TAKEN)
         return fail("the search is refused");
     if (outcome == LOUNGEEGRET_FOUND) {
@@ -81,6 +82,26 @@ static int print_round(const uint64_t *state)
     return 0;
 }
 
+/*
+ * Cut steps until nothing changes. Each is given the must-drive roads that the one before handed back, and the first none: so all
+ * rounds count. A network with one-way legs stays as it is.
+ */
+static int cut(uint64_t *state)
+{
+    uint64_t must[LOUNGEEGRET_ROWS] = {0}, given[LOUNGEEGRET_ROWS] = {0};
+    uint32_t removed = 0;
+
+    do {
+        memcpy(given, must, sizeof must);
+        uint32_t number = loungeegret_cut(state, LOUNGEEGRET_STATE_WORDS, must, LOUNGEEGRET_ROWS, &removed);
+        if (number == LOUNGEEGRET_NOT_TWO_WAY)
+            return 0;
+        if (number != LOUNGEEGRET_TAKEN)
+            return fail("the cut step is refused");
+    } while (removed > 0 || memcmp(given, must, sizeof must) != 0);
+    return 0;
+}
+
 static int prune(const uint8_t *sheet, size_t sheet_length, const char *struck)
 {
     uint64_t state[LOUNGEEGRET_STATE_WORDS] = {0};
@@ -93,6 +114,9 @@ static int prune(const uint8_t *sheet, size_t sheet_length, const char *struck)
         printf("refused %u at %zu\n", (unsigned)number, place);
         return 1;
     }
+    /* Before the run, which may leave some roads one way only. */
+    if (cut(state) != 0)
+        return 2;
     /*
      * Sweeps, chain steps and passes; each can also be called by hand. This budget always suffices: the end is stable or none.
      * Short turns with smaller budgets, while the end is open, come to the same.

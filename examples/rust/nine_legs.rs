@@ -1,6 +1,6 @@
-//! Prunes a sheet, the one in the file that is named or else the sheet of nine legs. Prints how the run ended and, unless that is
-//! none, the station lines and the first round; where a second file is named, the sheet of what is left goes there. The exit status
-//! is that of ./prune: 0 pruned, 1 refused, 2 something failed, 3 the end none.
+//! Prunes a sheet, the one in the file that is named or else the sheet of nine legs, by cut steps, where the network is two-way, and
+//! a run. Prints how the run ended and, unless that is none, the station lines and the first round; where a second file is named,
+//! the sheet of what is left goes there. The exit status is that of ./prune: 0 pruned, 1 refused, 2 something failed, 3 the end none.
 use std::ffi::OsString;
 use std::fs::{self, File};
 use std::io::{self, Read, Write};
@@ -22,6 +22,13 @@ unsafe extern "C" {
         state_length: usize,
         budget: u32,
         steps: &mut u32,
+        removed: &mut u32,
+    ) -> u32;
+    fn loungeegret_cut(
+        state: *mut u64,
+        state_length: usize,
+        must: *mut u64,
+        must_length: usize,
         removed: &mut u32,
     ) -> u32;
     fn loungeegret_first_round(
@@ -50,11 +57,13 @@ unsafe extern "C" {
 }
 
 const TAKEN: u32 = 0;
+const NOT_TWO_WAY: u32 = 11;
 const FOUND: u32 = 1;
 const NO_ROUND: u32 = 2;
 const N: usize = 64;
 const END: usize = 68;
 const STATE_WORDS: usize = 69;
+const ROWS: usize = 64;
 const SHEET_MOST: u64 = 1153;
 const TEXT_MOST: usize = 11776;
 const WRITTEN_MOST: usize = 577;
@@ -112,6 +121,8 @@ fn prune(sheet: &[u8], out: &mut impl Write, struck: Option<OsString>) -> io::Re
         writeln!(out, "refused {number} at {place}")?;
         return Ok(1);
     }
+    // Before the run, which may leave some roads one way only.
+    cut(&mut state)?;
     // Sweeps, chain steps and passes; each can also be called by hand. This budget always suffices: the end is stable or none.
     // Short turns with smaller budgets, while the end is open, come to the same.
     let number = unsafe {
@@ -143,11 +154,31 @@ fn prune(sheet: &[u8], out: &mut impl Write, struck: Option<OsString>) -> io::Re
     Ok(0)
 }
 
+/// Cut steps until nothing changes. Each is given the must-drive roads that the one before handed back, and the first none: so all
+/// rounds count. A network with one-way legs stays as it is.
+fn cut(state: &mut [u64]) -> io::Result<()> {
+    let mut must = [0; ROWS];
+    loop {
+        let (given, mut removed) = (must, 0);
+        // SAFETY: as above.
+        let number = unsafe {
+            let (words, roads) = (state.as_mut_ptr(), must.as_mut_ptr());
+            loungeegret_cut(words, state.len(), roads, must.len(), &mut removed)
+        };
+        match number {
+            NOT_TWO_WAY => return Ok(()),
+            TAKEN if removed == 0 && must == given => return Ok(()),
+            TAKEN => {}
+            _ => return Err(io::Error::other("the cut step is refused")),
+        }
+    }
+}
+
 /// The first round, as the next station of each station, station 1 first.
 fn round_line(state: &[u64]) -> io::Result<String> {
     let mut list = vec![0; state[N] as usize];
     let (mut outcome, mut nodes) = (0, 0);
-    // What the run struck makes no difference: it is the first round of the opened sheet.
+    // What was struck makes no difference: it is the first round of the opened sheet.
     // SAFETY: as above.
     let number = unsafe {
         let (words, bytes, n) = (state.as_ptr(), list.as_mut_ptr(), list.len());

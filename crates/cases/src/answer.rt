@@ -10,6 +10,7 @@ use circuit::Checked;
 use circuit::End;
 use circuit::Filled;
 use circuit::Work;
+use cut::CutCalled;
 use filter::Called;
 use filter::Ran;
 use sheet::Opened;
@@ -68,6 +69,28 @@ pub fn print_called(name: &[u8], called: Called) {
         called.removed as u64,
     );
     print_state(called.work);
+}
+
+fn print_must(must: [u64; 64]) {
+    let mut line = [0u8; LINE];
+    let at = put(&mut line, 0, b"must");
+    let at = put_rows(&mut line, at, &must);
+    let at = put(&mut line, at, b"\n");
+    print_line(line, at);
+}
+
+// A cut step, with the must-drive table that it hands back.
+pub fn print_cut(called: CutCalled) {
+    let answer = called.answer;
+    let must = called.must;
+    print_pair(
+        b"cut ",
+        answer.number() as u64,
+        b" removed ",
+        called.removed as u64,
+    );
+    print_state(called.work);
+    print_must(must);
 }
 
 pub fn print_ran(ran: Ran) {

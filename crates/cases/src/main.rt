@@ -6,14 +6,15 @@
 //   S  sweep
 //   C  chain step
 //   P  pass        seed u64
+//   K  cut step    row count u8, at most 64, rows u64 of the must-drive table
 //   R  run         budget u32
 //   L  list check  length u16, numbers one byte each
 //   T  report      buffer length u16, at most 16,384
 //   B  write       buffer length u16, at most 640
 //   F  first       node budget u32, list length u8
 //
-// The calls work on one current state, at first the blank one. The rows of a work state beyond its row count are empty. An unknown
-// or cut command, or an argument out of its range, is answered by `stop`, and ends the script.
+// The calls work on one current state, at first the blank one. The rows of a work state and of a must-drive table beyond the row count
+// are empty. An unknown or cut command, or an argument out of its range, is answered by `stop`, and ends the script.
 mod answer;
 mod line;
 mod made;
@@ -22,6 +23,7 @@ mod step;
 
 use answer::print_called;
 use answer::print_checked;
+use answer::print_cut;
 use answer::print_filled;
 use answer::print_first;
 use answer::print_ran;
@@ -32,6 +34,7 @@ use line::print;
 use made::again;
 use made::last_made;
 use made::make;
+use read::read_rows;
 use read::read_u16;
 use read::read_u32;
 use read::read_u64;
@@ -51,6 +54,9 @@ const REPORT: usize = 16384;
 
 // The longest buffer of a written sheet.
 const SHEET: usize = 640;
+
+// An opcode and the row count.
+const CUT_HEAD: usize = 2;
 
 // Room for a list of the finder whose length takes one byte.
 const LIST: usize = 256;
@@ -72,6 +78,27 @@ fn pass(part: &[u8], work: Work) -> Step
     }
     let seed = read_u64(part, 1) as usize;
     by_hand(b"pass ", filter::pass(work, seed), 9)
+}
+
+fn cut_step(part: &[u8], work: Work) -> Step
+    ensures { λ r. ⌜ r .taken ≤ length (now (part .entry)) ⌝ }
+{
+    if part.len() < CUT_HEAD {
+        return stop(work);
+    }
+    let count = part[1];
+    if 64 < count {
+        return stop(work);
+    }
+    let count = count as usize;
+    let taken = CUT_HEAD + 8 * count;
+    if part.len() < taken {
+        return stop(work);
+    }
+    let called = cut::cut(work, read_rows(part, CUT_HEAD, count));
+    print_cut(called);
+    let next = called.work;
+    Step { taken, work: next }
 }
 
 fn run(part: &[u8], work: Work) -> Step
@@ -155,6 +182,7 @@ fn command(part: &[u8], work: Work) -> Step
         b'S' => by_hand(b"sweep ", filter::sweep(work), 1),
         b'C' => by_hand(b"chain ", filter::chain(work), 1),
         b'P' => pass(part, work),
+        b'K' => cut_step(part, work),
         b'R' => run(part, work),
         b'L' => check_list(part, work),
         b'T' => report(part, work),

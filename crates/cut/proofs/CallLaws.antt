@@ -118,7 +118,7 @@ module _ (w : Work) (m : List ℕ) where
   pub cut-leads : Leads (λ h. cutCall w m .answer ≡ Taken → Driving h) w (cutCall w m .work)
   unfolding cutByHand
   cut-leads = cut-cases (λ (c : CutCalled). Leads (λ h. c .answer ≡ Taken → Driving h) w (c .work)) (λ _. stay _ w) (λ _ _. stay _ w) (λ _ _ _. stay _ w)
-      (λ b t a. leads-for (λ h d. d (hand-taken w says)) (byHand-leads Driving w says (says-sound (good w b) t a)))
+      (λ b t a. leads-for (λ h d _. d (hand-taken w says)) (byHand-leads Driving w says (says-sound (good w b) t a)))
 
   -- which then drive the new ones
   pub cut-then-drives : (h : ℕ → ℕ) → Driving h → RoundOf (w .n) (rowsOf w) h → DrivesAll (w .n) (cutCall w m .must) h
@@ -129,7 +129,7 @@ module _ (w : Work) (m : List ℕ) where
 
   pub cut-keeps : CutKeeps w m
   cut-keeps =
-      let L = leads-for {Q = Driving} (λ h d _. d) cut-leads in
+      let L = leads-for {Q = Driving} (λ h d _ _. d) cut-leads in
       record {
         survives = L .rounds;
         drives = cut-then-drives;

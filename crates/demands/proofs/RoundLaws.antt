@@ -21,18 +21,17 @@ use Rattle.circuit.proofs.Turn.{round-on}
 use Rattle.sheet.specs.Open.{openCall}
 use Rattle.sheet.proofs.GrammarLaws.{opened-good, opened-long}
 use Rattle.filter.specs.Leads.{Leads}
-use Rattle.filter.proofs.CallLaws.{leads-for}
 use Rattle.finder.specs.declared.outcome.Outcome.the-variants.{Found, NoRound}
 use Rattle.finder.specs.Search.{children, settled, decided, listIn, leaf, searchFrom, whole}
 use Rattle.finder.specs.Call.{outcomeOf, nodesOf, listAfter, firstCall, firstList}
 use Rattle.finder.specs.First.{Before, First}
 use Rattle.finder.specs.Claims.{Finds}
 use Rattle.finder.proofs.CallLaws.{finds}
-use Rattle.demands.specs.Sequence.{Call, afterAll, NoCuts}
+use Rattle.demands.specs.Sequence.{Call, afterAll}
 use Rattle.demands.specs.Definitions.{definitions}
 use Rattle.demands.specs.Examples.{listed, begun, nineLegs, butterfly}
 use Rattle.demands.specs.Rounds.{FirstAfter, SearchAfter, seeks, fullOfThree, catalogue, secondChild, noChild, searches}
-use Rattle.demands.proofs.DemandLaws.{all-leads, drives-all-given}
+use Rattle.demands.proofs.DemandLaws.{all-leads, all-leads-all}
 
 -- ---- one round is the first, and one list names it
 
@@ -90,19 +89,17 @@ module _ (w : Work) (g : Good w) (long : length (rowsOf w) ≡ 64) (old : List �
     after : FirstAfter P w cs b old
     after = record { found = is-first; passes = λ e. round-list w (firstList u b old) g (lists e); none = no-round }
 
-  -- without cut steps
-  all : (cs : List Call) → NoCuts cs → Leads All w (afterAll w cs)
-  all cs none = leads-for (λ h _. drives-all-given w cs none h) (all-leads w cs)
-
   searches-after : SearchAfter w old
   searches-after =
       record {
         list = λ cs b. after cs (all-leads w cs) b;
-        without-cuts = λ cs b none. after cs (all cs none) b;
-        same = λ cs ds b c n m e q.
-            let x = is-first cs (all cs n) b e in
-            let y = is-first ds (all ds m) c q in
-            same-list (w .n) (firstList (afterAll w cs) b old) (firstList (afterAll w ds) c old) (lists cs (all cs n) b e .numbers) (lists ds (all ds m) c q .numbers)
+        all-rounds = λ cs b o. after cs (all-leads-all w cs o) b;
+        same = λ cs ds b c o p e q.
+            let L = all-leads-all w cs o in
+            let M = all-leads-all w ds p in
+            let x = is-first cs L b e in
+            let y = is-first ds M c q in
+            same-list (w .n) (firstList (afterAll w cs) b old) (firstList (afterAll w ds) c old) (lists cs L b e .numbers) (lists ds M c q .numbers)
             (before-both (w .n) (choiceOf (firstList (afterAll w cs) b old)) (choiceOf (firstList (afterAll w ds) c old)) (x .first _ tt (y .round)) (y .first _ tt (x .round)));
       }
 

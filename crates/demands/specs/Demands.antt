@@ -20,7 +20,7 @@ use Rattle.filter.specs.declared.rule.Rule.{Rule}
 use Rattle.filter.specs.Calls.{unchanged, handCall, idle, runCall}
 use Rattle.filter.specs.Leads.{Budgets}
 use Rattle.cut.specs.Call.{uncut, cutCall}
-use Rattle.demands.specs.Sequence.{Call, handed, afterAll, DrivesAllGiven, NoCuts}
+use Rattle.demands.specs.Sequence.{Call, handed, afterAll, DrivesAllGiven, NoCuts, fedBack, noRoads}
 
 -- the answer is a refusal
 abbrev pub Refusal : Answer → Type 0
@@ -80,8 +80,11 @@ pub record Demand3 : Type 0 where
   -- of the rounds that drive every must-drive road given to the cut steps of the list that were not refused
   pub list : (sheet : List ℕ) (limit : ℕ) → openCall sheet limit .answer ≡ card 0 → (cs : List Call)
       → Kept (DrivesAllGiven (openCall sheet limit .work) cs) (openCall sheet limit .work) cs
-  -- so in a list without cut steps, of all rounds
+  -- so of all rounds in a list without cut steps
   pub without-cuts : (sheet : List ℕ) (limit : ℕ) → openCall sheet limit .answer ≡ card 0 → (cs : List Call) → NoCuts cs → Kept All (openCall sheet limit .work) cs
+  -- and where the cut steps get no must-drive roads but those that they handed back
+  pub fed-back : (sheet : List ℕ) (limit : ℕ) → openCall sheet limit .answer ≡ card 0 → (cs : List Call)
+      → Kept All (openCall sheet limit .work) (fedBack (openCall sheet limit .work) noRoads cs)
   pub budgets : (w : Work) (a b : ℕ) → a ≤ b → Budgets w a b
   -- a bad state is refused under every budget and comes back as it was
   pub refused : (w : Work) (budget : ℕ) → bad w ≡ true → runCall w budget ≡ idle (card 7) w

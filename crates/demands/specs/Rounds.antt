@@ -15,7 +15,7 @@ use Rattle.finder.specs.declared.outcome.Outcome.{Outcome}
 use Rattle.finder.specs.declared.outcome.Outcome.the-variants.{Found, NoRound, UsedUp}
 use Rattle.finder.specs.Call.{outcomeCode, firstCall, firstList}
 use Rattle.finder.specs.First.{First}
-use Rattle.demands.specs.Sequence.{Call, afterAll, DrivesAllGiven, NoCuts}
+use Rattle.demands.specs.Sequence.{Call, afterAll, DrivesAllGiven, OfAllRounds}
 use Rattle.demands.specs.Examples.{Start, table, sheet, leg, begun, nineLegs, butterfly}
 
 -- of the list of calls cs, from the opened state w, and a class P of rounds: the search after it, with a node budget b and a lent list that
@@ -31,10 +31,10 @@ pub record FirstAfter (P : (ℕ → ℕ) → Type 0) (w : Work) (cs : List Call)
 pub record SearchAfter (w : Work) (old : List ℕ) : Type 0 where
   -- the rounds are those that drive every must-drive road given to the cut steps of the list that were not refused
   pub list : (cs : List Call) (b : ℕ) → FirstAfter (DrivesAllGiven w cs) w cs b old
-  -- in a list without cut steps all rounds: found is the first round of the opened table, no round is said only where that has none
-  pub without-cuts : (cs : List Call) (b : ℕ) → NoCuts cs → FirstAfter All w cs b old
+  -- where the list speaks of all rounds: found is the first round of the opened table, no round is said only where that has none
+  pub all-rounds : (cs : List Call) (b : ℕ) → OfAllRounds w cs → FirstAfter All w cs b old
   -- so after other such calls, or none, and with another budget the found list is the same
-  pub same : (cs ds : List Call) (b c : ℕ) → NoCuts cs → NoCuts ds → firstCall (afterAll w cs) b old .outcome ≡ Found → firstCall (afterAll w ds) c old .outcome ≡ Found
+  pub same : (cs ds : List Call) (b c : ℕ) → OfAllRounds w cs → OfAllRounds w ds → firstCall (afterAll w cs) b old .outcome ≡ Found → firstCall (afterAll w ds) c old .outcome ≡ Found
       → firstList (afterAll w cs) b old ≡ firstList (afterAll w ds) c old
 
 -- ---- examples

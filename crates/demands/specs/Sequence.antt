@@ -3,9 +3,12 @@ use mathlib.Core.Path.{_≡_}
 use mathlib.Core.Bool.{Bool, true, false}
 use mathlib.Core.List.{List, [], _∷_}
 use Prim.Native.Nat.{ℕ}
+use lib.ListN.{replicate}
 use Rattle.bitset.specs.Upto.{Each}
 use Rattle.circuit.specs.declared.state.Work.{Work}
 use Rattle.circuit.specs.Card.{card}
+use Rattle.circuit.specs.Round.{RoundOf}
+use Rattle.circuit.specs.State.{rowsOf}
 use Rattle.roads.specs.Cut.{DrivesAll}
 use Rattle.filter.specs.declared.rule.Rule.{Rule}
 use Rattle.filter.specs.Calls.{handCall, runCall}
@@ -52,12 +55,27 @@ abbrev pub DrivesAllGiven : Work → List Call → (ℕ → ℕ) → Type 0
 DrivesAllGiven w [] h = Unit {0}
 DrivesAllGiven w (c ∷ cs) h = DrivesGiven w c h × DrivesAllGiven (handed w c) cs h
 
+-- the list speaks of all rounds: each of the state's table drives what the cut steps were given
+abbrev pub OfAllRounds : Work → List Call → Type 0
+OfAllRounds w cs = (h : ℕ → ℕ) → RoundOf (w .n) (rowsOf w) h → DrivesAllGiven w cs h
+
+-- so does one without cut steps
 unfoldable pub isCut : Call → Bool
 isCut (calling r) = false
 isCut (running budget) = false
 isCut (cutting must) = true
 isCut (asking q) = false
 
--- no cut step is in the list
 abbrev pub NoCuts : List Call → Type 0
 NoCuts cs = Each (λ (c : Call). isCut c ≡ false) cs
+
+-- and one whose first cut step is given no road and each later one what the one before it handed back; m is what the next one is given
+unfoldable pub fedBack : Work → List ℕ → List Call → List Call
+fedBack w m [] = []
+fedBack w m (calling r ∷ cs) = calling r ∷ fedBack (handed w (calling r)) m cs
+fedBack w m (running budget ∷ cs) = running budget ∷ fedBack (handed w (running budget)) m cs
+fedBack w m (cutting _ ∷ cs) = cutting m ∷ fedBack (handed w (cutting m)) (cutCall w m .must) cs
+fedBack w m (asking q ∷ cs) = asking q ∷ fedBack (handed w (asking q)) m cs
+
+abbrev pub noRoads : List ℕ
+noRoads = replicate 64 0

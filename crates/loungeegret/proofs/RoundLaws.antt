@@ -22,7 +22,7 @@ use Rattle.loungeegret.proofs.SequenceLaws.{in-sequence}
 
 pub first-words : (s sheet : List ℕ) (limit : ℕ) → stateWords ≤ length s → openCall sheet limit .answer ≡ card 0 → (cs : List Call) (b : ℕ) (old : List ℕ)
     → length old ≡ openCall sheet limit .work .n → SearchWords s sheet limit cs b old
-first-words s sheet limit h t cs b old fits = record { list = on (F .list cs b); without-cuts = λ none. on (F .without-cuts cs b none) }
+first-words s sheet limit h t cs b old fits = record { list = on (F .list cs b); all-rounds = λ o. on (F .all-rounds cs b o) }
   where
     w : Work
     w = openCall sheet limit .work

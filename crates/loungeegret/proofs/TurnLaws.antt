@@ -15,7 +15,9 @@ use Rattle.filter.specs.Turns.{both, turns}
 use Rattle.filter.proofs.HandLaws.{call-bad}
 use Rattle.filter.proofs.RunLaws.{run-bad}
 use Rattle.filter.proofs.TurnLaws.{run-stays, turns-sum, runs-add}
-use Rattle.demands.specs.Sequence.{Call, calling, running, asking, handed}
+use Rattle.cut.specs.declared.CutCalled.{CutCalled}
+use Rattle.cut.proofs.CallLaws.{cut-bad}
+use Rattle.demands.specs.Sequence.{Call, calling, running, cutting, asking, handed}
 use Rattle.demands.specs.Turns.{budgetsOf, NoneByHand}
 use Rattle.demands.proofs.TurnLaws.{one-run}
 use Rattle.loungeegret.specs.Words.{stateWords, loaded, storedIn}
@@ -41,6 +43,7 @@ bad-handed : (s : List ℕ) → bad (loaded s) ≡ true → stateWords ≤ lengt
 unfolding wordsHanded wordsAfter
 bad-handed s e h (calling r) = ap (λ (c : Called). wordsBack s (c .answer) (c .work)) (sym (call-bad (loaded s) r e)) ∙ on-state s s s h
 bad-handed s e h (running budget) = ap (λ (r : Ran). wordsBack s (r .answer) (r .work)) (run-bad (loaded s) budget e) ∙ on-state s s s h
+bad-handed s e h (cutting must) = ap (λ (c : CutCalled). wordsBack s (c .answer) (c .work)) (sym (cut-bad (loaded s) must e)) ∙ on-state s s s h
 bad-handed s e h (asking q) = refl
 
 bad-all : (s : List ℕ) → bad (loaded s) ≡ true → stateWords ≤ length s → (cs : List Call) → wordsAll s cs ≡ s

@@ -10,7 +10,7 @@ use Rattle.sheet.specs.Open.{openCall}
 use Rattle.finder.specs.declared.outcome.Outcome.the-variants.{Found, NoRound}
 use Rattle.finder.specs.Call.{firstCall, firstList}
 use Rattle.finder.specs.First.{First}
-use Rattle.demands.specs.Sequence.{Call, DrivesAllGiven, NoCuts}
+use Rattle.demands.specs.Sequence.{Call, DrivesAllGiven, OfAllRounds}
 use Rattle.loungeegret.specs.Words.{loaded}
 use Rattle.loungeegret.specs.Sequence.{openedWords, wordsAll}
 
@@ -25,5 +25,5 @@ pub record FirstWords (P : (ℕ → ℕ) → Type 0) (w : Work) (s : List ℕ) (
 pub record SearchWords (s sheet : List ℕ) (limit : ℕ) (cs : List Call) (b : ℕ) (old : List ℕ) : Type 0 where
   -- the rounds are those that drive every must-drive road given to the cut steps of the list that were not refused
   pub list : FirstWords (DrivesAllGiven (openCall sheet limit .work) cs) (openCall sheet limit .work) (wordsAll (openedWords s sheet limit) cs) b old
-  -- in a list without cut steps all rounds
-  pub without-cuts : NoCuts cs → FirstWords All (openCall sheet limit .work) (wordsAll (openedWords s sheet limit) cs) b old
+  -- all rounds, where the list speaks of them: without cut steps, or where these get no must-drive roads but those that they handed back
+  pub all-rounds : OfAllRounds (openCall sheet limit .work) cs → FirstWords All (openCall sheet limit .work) (wordsAll (openedWords s sheet limit) cs) b old
