@@ -17,7 +17,7 @@ use Rattle.circuit.specs.State.{isNone, rowsOf, bad, Good}
 use Rattle.circuit.specs.Verdict.{Sound}
 use Rattle.circuit.proofs.LegsLaws.{length-tableOf}
 use Rattle.circuit.proofs.StateLaws.{good}
-use Rattle.roads.specs.declared.RoadVerdict.{RoadVerdict}
+use Rattle.roads.specs.declared.step.RoadVerdict.{RoadVerdict}
 use Rattle.roads.specs.Cut.{cut, cutNone, cutMust, dropped, verdictOf, isTwoWay, areRoads, TwoWay, DrivesAll}
 use Rattle.roads.proofs.CheckLaws.{checked-two}
 use Rattle.roads.proofs.KeepsLaws.{cut-sound, cut-drives}

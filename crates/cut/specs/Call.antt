@@ -6,7 +6,7 @@ use Rattle.circuit.specs.declared.card.Answer.{Answer}
 use Rattle.circuit.specs.declared.state.Work.{Work}
 use Rattle.circuit.specs.Card.{card}
 use Rattle.circuit.specs.State.{isNone, rowsOf, bad}
-use Rattle.roads.specs.declared.RoadVerdict.{RoadVerdict}
+use Rattle.roads.specs.declared.step.RoadVerdict.{RoadVerdict}
 use Rattle.roads.specs.Cut.{cut, verdictOf, isTwoWay, areRoads}
 use Rattle.filter.specs.Calls.{byHand}
 use Rattle.cut.specs.declared.CutCalled.{CutCalled}

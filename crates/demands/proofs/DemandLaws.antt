@@ -78,9 +78,10 @@ unfolding fedBack
 drives-fed w m [] h d r = tt
 drives-fed w m (calling x ∷ cs) h d r = (tt, drives-fed (handed w (calling x)) m cs h (still-drives w (calling x) m h d) (stands w (calling x) h tt r))
 drives-fed w m (running b ∷ cs) h d r = (tt, drives-fed (handed w (running b)) m cs h (still-drives w (running b) m h d) (stands w (running b) h tt r))
-drives-fed w m (cutting _ ∷ cs) h d r =
-    (λ _. d,
-    drives-fed (handed w (cutting m)) (cutCall w m .must) cs h (still-drives w (cutting m) (cutCall w m .must) h (cut-keeps w m .drives h d r)) (stands w (cutting m) h (λ _. d) r))
+drives-fed w m (cutting _ ∷ cs) h d r = (
+  λ _. d,
+  drives-fed (handed w (cutting m)) (cutCall w m .must) cs h (still-drives w (cutting m) (cutCall w m .must) h (cut-keeps w m .drives h d r)) (stands w (cutting m) h (λ _. d) r),
+)
 drives-fed w m (asking q ∷ cs) h d r = (tt, drives-fed (handed w (asking q)) m cs h (still-drives w (asking q) m h d) (stands w (asking q) h tt r))
 
 no-row : (k i : ℕ) → row (replicate k 0) i ≡ 0

@@ -7,7 +7,7 @@ use Rattle.circuit.specs.declared.state.Work.{Work}
 use Rattle.circuit.specs.State.{rowsOf}
 use Rattle.circuit.specs.Verdict.{Sound}
 use Rattle.circuit.proofs.StateLaws.{stray-corner}
-use Rattle.roads.specs.declared.RoadVerdict.{RoadVerdict}
+use Rattle.roads.specs.declared.step.RoadVerdict.{RoadVerdict}
 use Rattle.roads.specs.Cut.{verdictOf, DrivesAll}
 use Rattle.filter.specs.declared.hand.Called.{Called}
 use Rattle.filter.specs.inner.Steps.{stateAt}

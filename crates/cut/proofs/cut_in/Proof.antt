@@ -5,7 +5,7 @@ use mathlib.Core.Bool.{true, false}
 use borrow.Author.Tests.{not-true, not-false}
 use Rattle.circuit.specs.declared.state.Work.{Work}
 use Rattle.circuit.specs.State.{bad}
-use Rattle.circuit.proofs.StateLaws.{good}
+use Rattle.circuit.proofs.StateLaws.{good, stray-row}
 use Rattle.roads.specs.Cut.{isTwoWay, areRoads}
 use Rattle.filter.specs.inner.Steps.{stateAt}
 use Rattle.cut.specs.inner.Parts.{cutAs}
@@ -59,7 +59,11 @@ returns c =
     (ap (cutAs (a .n) (a .limit) (a .rows .now) (a .must .now)) (c .unmoved .ensures) ∙ cut-bad (given s) (a .must .now) (sym (told b) ∙ c .before .if1 .taken), λ _. refl)
 
 is-two-way-requires : tie.Need-is-two-way-requires
-is-two-way-requires c κs = let e = c .before in good (given (start (e .before))) (not-bad e) .most
+is-two-way-requires c κs =
+    let e = c .before in
+    let s = start (e .before) in
+    let g = good (given s) (not-bad e) in
+    (g .most, stray-row (s .args .n) (s .args .rows .now) (g .most) (g .table))
 
 unmoved-requires-2 : tie.Need-unmoved-requires-2
 unmoved-requires-2 c κs = search needs
