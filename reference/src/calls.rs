@@ -1,5 +1,6 @@
 //! The calls of one implementation, so that several can run the same script.
 
+use crate::cut::{self, Cut};
 use crate::fast::{Idle, Told, Untold};
 use crate::filled::Filled;
 use crate::finder::{self, Sought};
@@ -7,14 +8,15 @@ use crate::hand::Handled;
 use crate::list::Checked;
 use crate::run::Ran;
 use crate::sheet::Opened;
-use crate::state::WorkState;
-use crate::{chain, fast, lines, list, pass, program, run, sheet, state, sweep, written};
+use crate::state::{self, Rows, WorkState};
+use crate::{chain, fast, lines, list, pass, program, run, sheet, sweep, written};
 
 pub trait Calls {
     fn open(&self, sheet: &[u8], limit: u64) -> Opened;
     fn sweep(&self, state: WorkState) -> Handled;
     fn chain(&self, state: WorkState) -> Handled;
     fn pass(&self, state: WorkState, seed: u64) -> Handled;
+    fn cut(&self, state: WorkState, must: &Rows) -> Cut;
     fn run(&self, state: WorkState, budget: u32) -> Ran;
     fn list_check(&self, state: &WorkState, numbers: &[u8]) -> Checked;
     fn first_round(&self, state: &WorkState, budget: u32, list: &mut [u8]) -> Sought;
@@ -63,6 +65,10 @@ impl Calls for Plain {
         pass::pass(state, seed)
     }
 
+    fn cut(&self, state: WorkState, must: &Rows) -> Cut {
+        cut::cut(state, must)
+    }
+
     fn run(&self, state: WorkState, budget: u32) -> Ran {
         run::run(state, budget)
     }
@@ -107,6 +113,10 @@ impl<C: ByWords> Calls for C {
 
     fn pass(&self, state: WorkState, seed: u64) -> Handled {
         fast::pass_by::<C::Idle>(state, seed)
+    }
+
+    fn cut(&self, state: WorkState, must: &Rows) -> Cut {
+        fast::cut(state, must)
     }
 
     fn run(&self, state: WorkState, budget: u32) -> Ran {

@@ -13,3 +13,5 @@ pub const BAD_WORK_STATE: Number = 7;
 pub const STRAY_SEED: Number = 8;
 pub const WRONG_LIST_LENGTH: Number = 9;
 pub const NO_ROOM: Number = 10;
+pub const NOT_TWO_WAY: Number = 11;
+pub const STRAY_ROAD: Number = 12;

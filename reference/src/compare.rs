@@ -4,6 +4,7 @@
 mod call;
 pub mod ceilings;
 mod counts;
+pub mod cuts;
 mod difference;
 mod draw;
 pub mod finder;
@@ -80,6 +81,7 @@ fn go_through(tested: &dyn Calls, seed: u64, index: u64, judge: Judge) -> Found<
         session.sequence()?;
         session.state_of_no_opening()?;
         session.searches_of_no_sheet()?;
+        session.cuts_of_no_sheet()?;
     } else {
         session.each_call()?;
     }
@@ -164,17 +166,19 @@ impl Session<'_> {
         Ok(())
     }
 
-    /// Writes, runs with their ceiling, runs in turns and a chain step on the opened state,
-    /// on some tables passes and other runs too, then calls in any order, the whole run, and
-    /// more calls on the ended state: runs in turns, some of any kind, then reports and
-    /// writes into buffers of every length that matters. Each stable state is held to what
-    /// is said of it. Searches come last, on the states at the start, amid and at the end.
+    /// Writes, runs with their ceiling, runs in turns, a chain step and a cut step on the
+    /// opened state, on some tables passes and other runs too, then calls in any order, the
+    /// whole run, and more calls on the ended state: runs in turns, some of any kind, then
+    /// reports and writes into buffers of every length that matters. Each stable state is
+    /// held to what is said of it. Searches come last, on the states at the start, amid and
+    /// at the end.
     fn sequence(&mut self) -> Found<()> {
         let opened = self.state;
         self.writes()?;
         self.ceilings_and_back()?;
         self.turns_from_the_start()?;
         self.chain_and_back()?;
+        self.cut_and_back()?;
         match self.made.kind {
             Kind::Any => {}
             Kind::Islands => self.islands_and_back()?,
@@ -278,6 +282,7 @@ impl Session<'_> {
         self.put(moved);
         self.writes()?;
         self.chain_and_back()?;
+        self.cut_and_back()?;
         self.turns_of_no_opening()?;
         for _ in 0..4 {
             self.drawn_call()?;
@@ -301,7 +306,7 @@ impl Session<'_> {
         for call in draw::each_call(&mut self.rng, &self.state, &self.watch.rounds) {
             self.call(call)?;
         }
-        Ok(())
+        self.apart(Session::drawn_cut)
     }
 
     fn put(&mut self, state: WorkState) {
@@ -333,6 +338,7 @@ impl Session<'_> {
             }
         }
         self.hold_to_ceiling(&call, &answer)?;
+        self.hold_cut(&call, &answer)?;
         self.count_taken(&call, &answer);
         if let Some(state) = answer.state() {
             if let Some(fault) = self.watch.fault(state) {
@@ -376,6 +382,7 @@ impl Session<'_> {
             (Call::Open { .. } | Call::OpenWritten { .. } | Call::Write { .. }, _) => 100,
             (Call::FirstRound { .. }, 0..=8) => 5,
             (Call::FirstRound { .. }, _) => 0,
+            (Call::Cut { .. }, 25..=64) => 10,
             (_, 0..=12) => 100,
             (_, 13..=24) if self.on_stable => 5,
             (_, 25..=64) if self.on_stable => 1,

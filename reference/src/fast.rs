@@ -11,6 +11,7 @@
 mod bits;
 mod chain;
 mod components;
+mod cut;
 mod finder;
 mod flood;
 mod grid;
@@ -34,6 +35,7 @@ use crate::run::Ran;
 use crate::state::{good_limit, last_place, End, WorkState};
 
 pub use self::components::components;
+pub use self::cut::cut;
 pub use self::finder::first_round;
 pub use self::idle::{Idle, Told, Untold};
 pub use self::lines::report;

@@ -3,10 +3,12 @@
 mod grids;
 mod last_seed;
 mod long_runs;
+pub mod must;
 mod searches;
 mod shapes;
 mod splits;
 mod states;
+mod two_way;
 mod valleys;
 
 use std::ops::RangeInclusive;
@@ -20,6 +22,7 @@ pub use self::searches::{struck_above, struck_beside, two_sides};
 pub use self::shapes::{band, Shape, Ways, SEARCHED, SHAPES};
 pub use self::splits::{cut_at, split_budget};
 pub use self::states::any_state;
+pub use self::two_way::{all_two_way, any_two_way, Network};
 pub use self::valleys::{long_dead_end, long_valley, no_way_left, one_way_valleys};
 pub use self::valleys::{road_with_gap, through_one_station, way_outside, way_struck_before};
 

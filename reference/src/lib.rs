@@ -12,6 +12,7 @@ pub mod ceiling;
 pub mod chain;
 pub mod choices;
 pub mod compare;
+pub mod cut;
 pub mod fast;
 pub mod filled;
 pub mod finder;
@@ -40,6 +41,7 @@ pub mod written;
 
 pub use calls::{Calls, Fast, Plain, Telling};
 pub use chain::chain;
+pub use cut::{cut, Cut};
 pub use filled::Filled;
 pub use finder::{first_round, Outcome, Sought};
 pub use hand::Handled;

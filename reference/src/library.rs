@@ -2,16 +2,18 @@
 
 use crate::calls::Calls;
 use crate::card::{self, Number};
+use crate::cut::Cut;
 use crate::filled::Filled;
 use crate::finder::{Outcome, Sought};
 use crate::hand::Handled;
 use crate::list::Checked;
 use crate::run::Ran;
 use crate::sheet::Opened;
-use crate::state::WorkState;
+use crate::state::{Rows, WorkState};
 use crate::words::{from_words, to_words, Words, STATE_WORDS};
 
-/// What a call answers when the words lent to it are too few for a state.
+/// What a call answers when the words lent to it are too few for a state or for a
+/// must-drive table.
 pub const NO_STATE: u32 = 100;
 
 // Limits and seeds reach the library as `usize`, and none may be cut short.
@@ -35,6 +37,13 @@ mod ffi {
             state: *mut u64,
             state_len: usize,
             seed: usize,
+            removed: *mut u32,
+        ) -> u32;
+        pub fn loungeegret_cut(
+            state: *mut u64,
+            state_len: usize,
+            must: *mut u64,
+            must_len: usize,
             removed: *mut u32,
         ) -> u32;
         pub fn loungeegret_run(
@@ -109,6 +118,11 @@ pub mod raw {
 
     pub fn pass(state: &mut [u64], seed: usize, removed: &mut u32) -> u32 {
         unsafe { ffi::loungeegret_pass(state.as_mut_ptr(), state.len(), seed, removed) }
+    }
+
+    pub fn cut(state: &mut [u64], must: &mut [u64], removed: &mut u32) -> u32 {
+        let (words, length) = (state.as_mut_ptr(), state.len());
+        unsafe { ffi::loungeegret_cut(words, length, must.as_mut_ptr(), must.len(), removed) }
     }
 
     pub fn run(state: &mut [u64], budget: u32, steps: &mut u32, removed: &mut u32) -> u32 {
@@ -194,6 +208,19 @@ impl Calls for Library {
         by_hand(&state, |words, removed| {
             raw::pass(words, seed as usize, removed)
         })
+    }
+
+    fn cut(&self, state: WorkState, must: &Rows) -> Cut {
+        let mut after = *must;
+        let handled = by_hand(&state, |words, removed| {
+            raw::cut(words, &mut after, removed)
+        });
+        Cut {
+            number: handled.number,
+            state: handled.state,
+            must: after,
+            removed: handled.removed,
+        }
     }
 
     fn run(&self, state: WorkState, budget: u32) -> Ran {

@@ -12,6 +12,7 @@
 //! | `S` sweep | |
 //! | `C` chain step | |
 //! | `P` pass | seed u64 |
+//! | `K` cut step | row count u8, at most 64, rows u64 of the must-drive table |
 //! | `R` run | budget u32 |
 //! | `L` list check | length u16, numbers one byte each |
 //! | `T` report | buffer length u16, at most 16,384 |
@@ -19,14 +20,15 @@
 //! | `F` first round | node budget u32, list length u8 |
 //!
 //! The calls work on one current state, at first the blank one. The rows of a work state
-//! beyond its row count are empty. A report and a write are answered by their whole
-//! buffer, a search for the first round by its whole list; a list and the buffer of a
-//! write are in hexadecimal.
+//! and of a must-drive table beyond the row count are empty. A cut step is also answered by
+//! the must-drive table that it hands back. A report and a write are answered by their
+//! whole buffer, a search for the first round by its whole list; a list and the buffer of
+//! a write are in hexadecimal.
 
 use std::io::{self, Write};
 
 use crate::calls::Calls;
-use crate::state::{End, WorkState};
+use crate::state::{rows_text, End, Rows, WorkState};
 
 pub const LONGEST_REPORT: u16 = 16_384;
 pub const LONGEST_WRITE: u16 = 640;
@@ -51,10 +53,7 @@ impl Script {
         self.make([&[b'O'][..], &limit.to_le_bytes(), &counted(sheet)].concat());
     }
 
-    /// The rows up to the last that is not empty.
     pub fn work(&mut self, state: &WorkState) {
-        let last = state.rows.iter().rposition(|&row| row != 0);
-        let rows = &state.rows[..last.map_or(0, |last| last + 1)];
         let end = match state.end {
             End::Open => 0,
             End::Stable => 1,
@@ -64,10 +63,8 @@ impl Script {
         for word in [state.n, state.limit, state.place] {
             command.extend(word.to_le_bytes());
         }
-        command.extend([u8::from(state.mark), end, rows.len() as u8]);
-        for row in rows {
-            command.extend(row.to_le_bytes());
-        }
+        command.extend([u8::from(state.mark), end]);
+        command.extend(counted_rows(&state.rows));
         self.make(command);
     }
 
@@ -93,6 +90,11 @@ impl Script {
     pub fn pass(&mut self, seed: u64) {
         self.bytes.push(b'P');
         self.bytes.extend(seed.to_le_bytes());
+    }
+
+    pub fn cut(&mut self, must: &Rows) {
+        self.bytes.push(b'K');
+        self.bytes.extend(counted_rows(must));
     }
 
     pub fn run(&mut self, budget: u32) {
@@ -133,12 +135,22 @@ fn counted(bytes: &[u8]) -> Vec<u8> {
     [&length.to_le_bytes(), bytes].concat()
 }
 
+/// The rows up to the last that is not empty, after their number.
+fn counted_rows(rows: &Rows) -> Vec<u8> {
+    let last = rows.iter().rposition(|&row| row != 0);
+    let rows = &rows[..last.map_or(0, |last| last + 1)];
+    let mut bytes = vec![rows.len() as u8];
+    bytes.extend(rows.iter().flat_map(|row| row.to_le_bytes()));
+    bytes
+}
+
 enum Command<'a> {
     Open { limit: u64, sheet: &'a [u8] },
     Work(Box<WorkState>),
     Sweep,
     Chain,
     Pass { seed: u64 },
+    Cut { must: Box<Rows> },
     Run { budget: u32 },
     List { numbers: &'a [u8] },
     Report { length: usize },
@@ -185,6 +197,9 @@ impl<'a> Reader<'a> {
             b'S' => Command::Sweep,
             b'C' => Command::Chain,
             b'P' => Command::Pass { seed: self.word()? },
+            b'K' => Command::Cut {
+                must: Box::new(self.rows()?),
+            },
             b'R' => Command::Run {
                 budget: u32::from_le_bytes(self.array()?),
             },
@@ -206,7 +221,7 @@ impl<'a> Reader<'a> {
     }
 
     fn state(&mut self) -> Option<WorkState> {
-        let mut state = WorkState {
+        Some(WorkState {
             n: self.word()?,
             limit: self.word()?,
             place: self.word()?,
@@ -221,13 +236,17 @@ impl<'a> Reader<'a> {
                 2 => End::None,
                 _ => return None,
             },
-            rows: [0; 64],
-        };
+            rows: self.rows()?,
+        })
+    }
+
+    fn rows(&mut self) -> Option<Rows> {
+        let mut rows = [0; 64];
         let count = usize::from(self.byte()?);
-        for row in state.rows.get_mut(..count)? {
+        for row in rows.get_mut(..count)? {
             *row = self.word()?;
         }
-        Some(state)
+        Some(rows)
     }
 
     fn buffer_length(&mut self, longest: u16) -> Option<usize> {
@@ -306,6 +325,13 @@ fn answer(
             let passed = calls.pass(*state, seed);
             *state = passed.state;
             writeln!(out, "pass {} removed {}", passed.number, passed.removed)?;
+        }
+        Command::Cut { must } => {
+            let cut = calls.cut(*state, &must);
+            *state = cut.state;
+            writeln!(out, "cut {} removed {}", cut.number, cut.removed)?;
+            writeln!(out, "state {state}")?;
+            return writeln!(out, "must{}", rows_text(&cut.must));
         }
         Command::Run { budget } => {
             let ran = calls.run(*state, budget);

@@ -88,13 +88,16 @@ impl fmt::Display for WorkState {
             self.end.word(),
             self.legs()
         )?;
-        for (at, row) in self.rows.iter().enumerate() {
-            if *row != 0 {
-                write!(out, " {}={row:016x}", at + 1)?;
-            }
-        }
-        Ok(())
+        out.write_str(&rows_text(&self.rows))
     }
+}
+
+/// The rows that are not empty, each after a space.
+pub fn rows_text(rows: &Rows) -> String {
+    let stations = (1..).zip(rows).filter(|(_, row)| **row != 0);
+    stations
+        .map(|(station, row)| format!(" {station}={row:016x}"))
+        .collect()
 }
 
 pub fn good_limit(limit: u64) -> bool {

@@ -17,7 +17,7 @@ use Rattle.bitset.proofs.BoolLaws.{clash, cases, and-intro, or-l, or-r, or-case
 use Rattle.bitset.proofs.HasLaws.{has-zero, has-and, has-pow, member-below}
 use Rattle.bitset.proofs.MachineLaws.{shl-one, setOf-take, setOf-skip}
 use Rattle.bitset.proofs.OnesLaws.{ones-zero, ones-pos, has-pos, size-ones}
-use Rattle.bitset.proofs.QuantLaws.{below?, at-or-below, any-intro, any-none}
+use Rattle.bitset.proofs.QuantLaws.{below?, at-or-below, any-intro, any-none, any-next}
 use Rattle.bitset.proofs.SetLaws.{word-has, has-self, some-member}
 use Rattle.bitset.proofs.UptoLaws.{length-upto, getD-upto, upto-cong, upto-of}
 use Rattle.bitset.proofs.WordLaws.{in-and}
@@ -27,7 +27,7 @@ use Rattle.filter.specs.Chain.{forked}
 use Rattle.filter.specs.inner.Chains.{CompulsoryOf}
 use Rattle.filter.specs.inner.Singles.{holds, two}
 use Rattle.filter.proofs.OneLaws.{only-bit}
-use Rattle.filter.proofs.SinglesLaws.{any-next, once-turn}
+use Rattle.filter.proofs.SinglesLaws.{once-turn}
 use Rattle.filter.proofs.SoleLaws.{col-below, col-some, col-two}
 
 -- ---- the columns of the first rows of a table m

@@ -1,9 +1,8 @@
 -- What `single_words` gathers, and what of it stays of a row. Assumes nothing.
 use mathlib.Core.Path.{_≡_, refl, sym, ap, ap₂, _∙_}
-use mathlib.Core.Bool.{Bool, true, false, not, cond, _&&_, _||_, or-comm, and-comm, and-assoc, and-true}
+use mathlib.Core.Bool.{Bool, true, false, not, cond, _&&_, _||_, and-comm, and-assoc, and-true}
 use mathlib.Core.List.{List}
 use Prim.Native.Nat.{ℕ, _+_, _-_, _^_, _<_}
-use native.Mathlib.Numerals.{add-one}
 use native.Mathlib.Omega.{arith}
 use lib.Bits.{bitAnd, bitOr}
 use lib.Dec.{eqb}
@@ -12,16 +11,13 @@ use borrow.Author.Tests.{eq-eqb, ne-eqb}
 use Rattle.bitset.specs.Sets.{has, any}
 use Rattle.bitset.proofs.BoolLaws.{cond-true, cond-false, cond-elim, taut2}
 use Rattle.bitset.proofs.HasLaws.{has-zero, has-and, has-or}
+use Rattle.bitset.proofs.QuantLaws.{any-next}
 use Rattle.bitset.proofs.SetLaws.{has-diff}
 use Rattle.filter.specs.declared.singles.Singles.{Singles}
 use Rattle.filter.specs.inner.Singles.{single, holds, only, two, SinglesOf, keeps}
 use Rattle.filter.proofs.OneLaws.{zero-single}
 
 -- ---- a turn of the loop
-
-pub any-next : (k : ℕ) (p : ℕ → Bool) → any (k + 1) p ≡ any k p || p k
-unfolding any
-any-next k p = ap (λ (m : ℕ). any m p) (add-one k) ∙ or-comm (p k) (any k p)
 
 -- no word so far
 pub singles-start : (words : List ℕ) → SinglesOf 0 words (record { empty = false; reached = 0; again = 0; once = 0; twice = 0 })

@@ -9,11 +9,16 @@ ghost use Rattle.bitset.specs.Sets.{sum};
 ghost use Rattle.circuit.specs.Legs.{leg};
 ghost use Rattle.roads.specs.inner.Promises.{TwoWayRows, partIn, Capped, RoadsOf};
 
-// How many legs lead out of x. A function of its own, since ranges are known of words that are parameters, not of elements.
+// How many legs lead out of x: of most stations none, and a word that is not empty is slow to count. A function of its own, since ranges are known of
+// words that are parameters, not of elements.
 fn part(legs: u64, x: u64) -> u32
     ensures { λ r. ⌜ (r ≡ ones (bitAnd legs (18446744073709551615 - x))) × (r ≤ 64) ⌝ }
 {
-    u64::count_ones(legs & !x)
+    let out = legs & !x;
+    if out == 0 {
+        return 0;
+    }
+    u64::count_ones(out)
 }
 
 // The roads across x, or some number above 3.
@@ -33,11 +38,11 @@ pub(crate) fn crossing(rows: &[u64; 64], x: u64) -> u32
     k
 }
 
-// The side with fewer stations.
-fn smaller(x: u64, other: u64) -> u64
+// The side with fewer of the n stations.
+fn smaller(x: u64, other: u64, n: usize) -> u64
     ensures { λ r. ⌜ (r ≡ x) ⊎ (r ≡ other) ⌝ }
 {
-    if u64::count_ones(x) <= u64::count_ones(other) {
+    if 2 * (u64::count_ones(x) as usize) <= n {
         return x;
     }
     other
@@ -56,6 +61,6 @@ pub(crate) fn roads_across(rows: &[u64; 64], n: usize, all: u64, x: u64) -> u32
     if other == 0 {
         return 4;
     }
-    let side = smaller(x, other);
+    let side = smaller(x, other, n);
     crossing(rows, side)
 }

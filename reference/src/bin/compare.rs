@@ -3,8 +3,8 @@
 //! `compare [--seed S] [--sheets COUNT]` goes through that many made-up sheets,
 //! `compare --seed S --sheet K` through a single one of them again. A difference
 //! ends it with status 1, and so does, after many sheets, a count of neighbours, of
-//! written sheets, of ceilings, of turns, of stable states or of searches that is still 0,
-//! or too few tables of valleys.
+//! written sheets, of ceilings, of turns, of stable states, of searches or of cut steps
+//! that is still 0, or too few tables of valleys.
 
 use std::process::ExitCode;
 use std::str::FromStr;
@@ -12,6 +12,7 @@ use std::sync::atomic::{AtomicU64, Ordering};
 use std::thread;
 use std::time::Instant;
 
+use reference::compare::cuts::CutCounts;
 use reference::compare::finder::SearchCounts;
 use reference::compare::{compare_sheet, Counts, Difference};
 use reference::Library;
@@ -176,6 +177,7 @@ fn tell(seed: u64, sheets: u64, counts: &Counts) {
         stable.states, stable.after_hand, stable.steps, stable.stray, stable.anew, stable.sheets, stable.made_up
     );
     tell_searches(&counts.searches);
+    tell_cuts(&counts.cuts);
 }
 
 fn tell_searches(searches: &SearchCounts) {
@@ -186,6 +188,17 @@ fn tell_searches(searches: &SearchCounts) {
     println!(
         "  searches that found the same: {} with another place, mark or end, {} with another limit and count, {} after calls that removed legs; refused: {} bad states, {} wrong lengths",
         searches.moved, searches.limits, searches.after_calls, searches.bad_states, searches.wrong_lengths
+    );
+}
+
+fn tell_cuts(cuts: &CutCounts) {
+    println!(
+        "  cut steps that gave none: {} by a cut of no road, {} of one road, {} of three must-drive roads, {} by a road that would do both; others: {} added must-drive roads, {} of them and left the state, {} removed roads, {} changed nothing, {} came after none; {} on more than 12 stations changed something",
+        cuts.no_road, cuts.one_road, cuts.three_must, cuts.both, cuts.forced, cuts.only_must, cuts.dropped, cuts.left, cuts.ended, cuts.wide
+    );
+    println!(
+        "  cut steps: {} with must-drive roads of a known round, {} rows of them to rest, {} times between turns that added up, {} times between turns after a change, {} stable states after them; refused: {} bad states, {} tables not two-way, {} stray roads",
+        cuts.in_class, cuts.in_a_row, cuts.turns, cuts.turns_broken, cuts.stable, cuts.bad_states, cuts.not_two_way, cuts.stray
     );
 }
 

@@ -4,13 +4,14 @@ use std::fmt;
 
 use crate::calls::Calls;
 use crate::card::Number;
+use crate::cut::Cut;
 use crate::filled::{fill, Filled};
 use crate::finder::Sought;
 use crate::hand::Handled;
 use crate::list::Checked;
 use crate::run::Ran;
 use crate::sheet::Opened;
-use crate::state::WorkState;
+use crate::state::{Rows, WorkState};
 
 #[derive(Clone, Debug)]
 pub enum Call {
@@ -19,6 +20,7 @@ pub enum Call {
     Sweep,
     Chain,
     Pass { seed: u64 },
+    Cut { must: Box<Rows> },
     Run { budget: u32 },
     List { numbers: Vec<u8> },
     FirstRound { budget: u32, length: usize },
@@ -32,6 +34,7 @@ pub enum Call {
 pub enum Answer {
     Opened(Opened),
     Handled(Handled),
+    Cut(Box<Cut>),
     Ran(Ran),
     Checked(Checked),
     Sought(Sought, Vec<u8>),
@@ -47,6 +50,7 @@ impl Call {
             Call::Sweep => Answer::Handled(calls.sweep(*state)),
             Call::Chain => Answer::Handled(calls.chain(*state)),
             Call::Pass { seed } => Answer::Handled(calls.pass(*state, *seed)),
+            Call::Cut { must } => Answer::Cut(Box::new(calls.cut(*state, must))),
             Call::Run { budget } => Answer::Ran(calls.run(*state, *budget)),
             Call::List { numbers } => Answer::Checked(calls.list_check(state, numbers)),
             Call::FirstRound { budget, length } => {
@@ -92,6 +96,7 @@ impl Answer {
         match self {
             Answer::Opened(opened) => opened.number,
             Answer::Handled(handled) => handled.number,
+            Answer::Cut(cut) => cut.number,
             Answer::Ran(ran) => ran.number,
             Answer::Checked(checked) => checked.number,
             Answer::Sought(sought, _) => sought.number,
@@ -104,9 +109,25 @@ impl Answer {
         match self {
             Answer::Opened(opened) => Some(&opened.state),
             Answer::Handled(handled) => Some(&handled.state),
+            Answer::Cut(cut) => Some(&cut.state),
             Answer::Ran(ran) => Some(&ran.state),
             Answer::Checked(_) | Answer::Sought(..) | Answer::Filled(..) => None,
         }
+    }
+}
+
+/// A must-drive table; empty rows are left out.
+struct Roads<'a>(&'a Rows);
+
+impl fmt::Display for Roads<'_> {
+    fn fmt(&self, out: &mut fmt::Formatter) -> fmt::Result {
+        write!(out, " must-drive")?;
+        for (at, row) in self.0.iter().enumerate() {
+            if *row != 0 {
+                write!(out, " {}={row:016x}", at + 1)?;
+            }
+        }
+        Ok(())
     }
 }
 
@@ -120,6 +141,7 @@ impl fmt::Display for Call {
             Call::Sweep => write!(out, "sweep"),
             Call::Chain => write!(out, "chain step"),
             Call::Pass { seed } => write!(out, "pass with seed {seed}"),
+            Call::Cut { must } => write!(out, "cut step with{}", Roads(must)),
             Call::Run { budget } => write!(out, "run with budget {budget}"),
             Call::List { numbers } => write!(out, "list check of {numbers:?}"),
             Call::FirstRound { budget, length } => {
@@ -138,6 +160,7 @@ impl fmt::Display for Answer {
         match self {
             Answer::Opened(opened) => write!(out, " at {}", opened.place)?,
             Answer::Handled(handled) => write!(out, " removed {}", handled.removed)?,
+            Answer::Cut(cut) => write!(out, " removed {}{}", cut.removed, Roads(&cut.must))?,
             Answer::Ran(ran) => write!(out, " steps {} removed {}", ran.steps, ran.removed)?,
             Answer::Checked(checked) => write!(out, " yes {}", checked.yes)?,
             Answer::Sought(sought, list) => {

@@ -2,6 +2,7 @@
 
 use super::call::Answer;
 use super::ceilings::CeilingCounts;
+use super::cuts::CutCounts;
 use super::finder::SearchCounts;
 use super::islands::IslandCounts;
 use super::neighbours::NeighbourCounts;
@@ -19,7 +20,7 @@ pub struct Counts {
     /// Calls that the plain implementation answered too.
     pub plain: u64,
     /// Answers by their number on the radio card.
-    pub numbers: [u64; 11],
+    pub numbers: [u64; 13],
     pub rounds_confirmed: u64,
     pub legs_removed: u64,
     pub ended_stable: u64,
@@ -35,6 +36,7 @@ pub struct Counts {
     pub turns: TurnCounts,
     pub stable: StableCounts,
     pub searches: SearchCounts,
+    pub cuts: CutCounts,
 }
 
 /// Chain steps by hand that were not refused, by what they did.
@@ -90,6 +92,7 @@ impl Counts {
         self.turns.add(&other.turns);
         self.stable.add(&other.stable);
         self.searches.add(&other.searches);
+        self.cuts.add(&other.cuts);
     }
 
     /// What is still missing of the calls that so many sheets have.
@@ -108,6 +111,8 @@ impl Counts {
             Some("stable states")
         } else if !self.searches.complete() {
             Some("searches")
+        } else if !self.cuts.complete() {
+            Some("cut steps")
         } else {
             None
         }
@@ -118,6 +123,7 @@ impl Counts {
         self.numbers[usize::from(answer.number())] += 1;
         match answer {
             Answer::Handled(handled) => self.legs_removed += handled.removed,
+            Answer::Cut(cut) => self.legs_removed += cut.removed,
             Answer::Ran(ran) => {
                 self.legs_removed += ran.removed;
                 if ran.steps > 0 {

@@ -2,6 +2,7 @@
 
 use super::call::{Answer, Call};
 use super::{Found, Session};
+use crate::cut::Cut;
 use crate::hand::Handled;
 use crate::program::BUDGET;
 use crate::stable::{fault_of_run, fault_of_run_anew, fault_of_sheet};
@@ -57,6 +58,8 @@ fn steps_by_hand(n: u64) -> impl Iterator<Item = Call> {
 pub struct Way {
     /// Has one of the steps by hand removed legs?
     pub by_hand: bool,
+    /// Has one of the cut steps?
+    by_cut: bool,
     /// The last stable state on it.
     held: Option<WorkState>,
 }
@@ -64,6 +67,12 @@ pub struct Way {
 impl Way {
     pub fn note(&mut self, answer: &Answer) {
         self.by_hand |= matches!(answer, Answer::Handled(handled) if handled.removed > 0);
+    }
+
+    /// A cut step is a step by hand.
+    pub fn note_cut(&mut self, cut: &Cut) {
+        self.by_hand |= cut.removed > 0;
+        self.by_cut |= cut.removed > 0;
     }
 }
 
@@ -89,6 +98,7 @@ impl Session<'_> {
         self.put(stable);
         self.counts.stable.states += 1;
         self.counts.stable.after_hand += u64::from(self.way.by_hand);
+        self.counts.cuts.stable += u64::from(self.way.by_cut);
         Ok(())
     }
 

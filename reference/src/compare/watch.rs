@@ -1,5 +1,8 @@
 //! What no sequence of calls may do to the opened table: lose a leg that one of
-//! its rounds drives, or end with none although there is a round.
+//! its rounds drives, or end with none although there is a round. After cut steps this is
+//! said of the rounds that drive every must-drive road they were given.
+
+use std::mem;
 
 use crate::rounds::rounds;
 use crate::state::{End, Rows, WorkState};
@@ -7,8 +10,10 @@ use crate::state::{End, Rows, WorkState};
 /// Tables of more stations have too many rounds to try.
 pub const MOST_STATIONS: u64 = 8;
 
+#[derive(Clone)]
 pub struct Watch {
-    /// Every round of the opened table where it is small, else the known one.
+    /// Every round of the opened table where it is small, else the known one; of these,
+    /// those that drive all must-drive roads that cut steps were given.
     pub rounds: Vec<Vec<usize>>,
     driven: Rows,
 }
@@ -35,6 +40,13 @@ impl Watch {
             }
         }
         Watch { rounds, driven }
+    }
+
+    /// Watches only some of the rounds from here on.
+    pub fn narrow(&mut self, watched: impl Fn(&[usize]) -> bool) {
+        let mut rounds = mem::take(&mut self.rounds);
+        rounds.retain(|round| watched(round));
+        *self = Watch::over(rounds);
     }
 
     /// What a state that the calls have led to does wrong.

@@ -3,6 +3,7 @@
 mod bad_states;
 mod ceilings;
 mod chains;
+mod cuts;
 mod finder;
 mod islands;
 mod lines;
@@ -41,6 +42,7 @@ pub fn script() -> Script {
     turns::add(&mut script);
     stable::add(&mut script);
     finder::add(&mut script);
+    cuts::add(&mut script);
     script
 }
 
@@ -76,6 +78,13 @@ pub fn stable() -> Script {
 pub fn finder() -> Script {
     let mut script = Script::default();
     finder::add(&mut script);
+    script
+}
+
+/// The section of cut steps alone.
+pub fn cuts() -> Script {
+    let mut script = Script::default();
+    cuts::add(&mut script);
     script
 }
 

@@ -12,8 +12,9 @@ use reference::list::Checked;
 use reference::run::Ran;
 use reference::script::play;
 use reference::sheet::Opened;
-use reference::state::last_place;
-use reference::{program, vectors, Calls, End, Fast, Filled, LegTable, Plain, Sought, WorkState};
+use reference::state::{last_place, Rows};
+use reference::{program, vectors, Calls, Cut, End, Fast, Filled};
+use reference::{LegTable, Plain, Sought, WorkState};
 
 use crate::opened;
 use crate::scripts::answers;
@@ -116,6 +117,10 @@ impl Calls for Faulty {
 
     fn pass(&self, state: WorkState, seed: u64) -> Handled {
         Fast.pass(state, seed)
+    }
+
+    fn cut(&self, state: WorkState, must: &Rows) -> Cut {
+        Fast.cut(state, must)
     }
 
     fn run(&self, state: WorkState, budget: u32) -> Ran {

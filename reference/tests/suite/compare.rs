@@ -3,6 +3,7 @@
 use std::collections::BTreeSet;
 
 use reference::compare::ceilings::CeilingCounts;
+use reference::compare::cuts::CutCounts;
 use reference::compare::finder::SearchCounts;
 use reference::compare::stable::StableCounts;
 use reference::compare::turns::TurnCounts;
@@ -14,9 +15,9 @@ use reference::hand::{self, Handled};
 use reference::list::Checked;
 use reference::run::Ran;
 use reference::sheet::Opened;
-use reference::state::last_place;
+use reference::state::{last_place, Rows};
 use reference::written::written_sheet;
-use reference::{card, open, program, Calls, End, Fast, Filled};
+use reference::{card, open, program, Calls, Cut, End, Fast, Filled};
 use reference::{LegTable, Sought, Telling, WorkState};
 
 /// Compares calls on sheets, which must show no difference.
@@ -80,6 +81,11 @@ fn fast_calls_differ_nowhere() {
         };
         assert_eq!(counts.missing(1_000), Some("turns"));
     }
+    let cuts = &counts.cuts;
+    assert!(cuts.no_road > 100 && cuts.one_road > 200 && cuts.three_must > 50);
+    assert!(cuts.both > 10 && cuts.forced > 500 && cuts.dropped > 150);
+    assert!(cuts.only_must > 400 && cuts.wide > 200 && cuts.in_class > 500);
+    assert!(cuts.in_a_row > 20 && cuts.stable > 50 && cuts.stray > 200);
     let stable = &counts.stable;
     assert!(stable.states > 300 && stable.after_hand > 80 && stable.steps > 4_000);
     assert!(stable.stray > 1_200 && stable.anew > 900 && stable.sheets > 300);
@@ -95,6 +101,13 @@ fn fast_calls_differ_nowhere() {
             ..counts.clone()
         };
         assert_eq!(counts.missing(1_000), Some("searches"));
+    }
+    for cuts in without_one_cut(&counts.cuts) {
+        let counts = Counts {
+            cuts,
+            ..counts.clone()
+        };
+        assert_eq!(counts.missing(1_000), Some("cut steps"));
     }
 }
 
@@ -122,6 +135,14 @@ fn without_one_kind(turns: &TurnCounts) -> [TurnCounts; 7] {
 fn without_one_search(searches: &SearchCounts) -> [SearchCounts; 13] {
     std::array::from_fn(|at| {
         let mut without = searches.clone();
+        *without.each_mut()[at] = 0;
+        without
+    })
+}
+
+fn without_one_cut(cuts: &CutCounts) -> [CutCounts; 18] {
+    std::array::from_fn(|at| {
+        let mut without = cuts.clone();
         *without.each_mut()[at] = 0;
         without
     })
@@ -387,6 +408,10 @@ impl Calls for Faulty {
             (Fault::IslandsStruck, Some(missed)) => without_missed(passed, &missed),
             _ => passed,
         }
+    }
+
+    fn cut(&self, state: WorkState, must: &Rows) -> Cut {
+        Fast.cut(state, must)
     }
 
     fn run(&self, state: WorkState, budget: u32) -> Ran {

@@ -9,7 +9,7 @@ use reference::script::FILLER;
 use reference::{bad, paper, vectors, End, Fast, LegTable, WorkState};
 
 use crate::opened;
-use crate::parts::{parts, Call, Part};
+use crate::parts::{parts, state_of, Call, Part};
 use crate::scripts::answers;
 
 const REFUSED: u32 = 0;
@@ -63,31 +63,6 @@ impl Search {
 fn bytes(digits: &str) -> Vec<u8> {
     let byte = |at: usize| u8::from_str_radix(&digits[at..at + 2], 16).expect("two digits");
     (0..digits.len()).step_by(2).map(byte).collect()
-}
-
-/// The state of a state line.
-fn state_of(line: &str) -> WorkState {
-    let words: Vec<&str> = line.split(' ').collect();
-    let number = |at: usize| words[at].parse().expect("a number");
-    let mut state = WorkState {
-        n: number(2),
-        limit: number(4),
-        place: number(6),
-        mark: words[8] == "1",
-        end: match words[10] {
-            "open" => End::Open,
-            "stable" => End::Stable,
-            _ => End::None,
-        },
-        rows: [0; 64],
-    };
-    for row in &words[13..] {
-        let (station, digits) = row.split_once('=').expect("a row");
-        let station: usize = station.parse().expect("a station");
-        state.rows[station - 1] = u64::from_str_radix(digits, 16).expect("16 digits");
-    }
-    assert_eq!(line, format!("state {state}"));
-    state
 }
 
 /// A state, and the searches from there.

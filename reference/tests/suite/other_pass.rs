@@ -4,7 +4,8 @@ use reference::hand::{self, Handled, Verdict};
 use reference::list::Checked;
 use reference::run::{run_with, Ran};
 use reference::sheet::Opened;
-use reference::{Calls, Fast, Filled, LegTable, Sought, WorkState};
+use reference::state::Rows;
+use reference::{Calls, Cut, Fast, Filled, LegTable, Sought, WorkState};
 
 /// Makes the pass of a run or of a call by hand. It is used on few stations: above, it
 /// would take long.
@@ -38,6 +39,10 @@ where
         hand::by_hand(state, |table| {
             (self.0)()(table, seed as usize, state.limit as usize)
         })
+    }
+
+    fn cut(&self, state: WorkState, must: &Rows) -> Cut {
+        Fast.cut(state, must)
     }
 
     fn run(&self, state: WorkState, budget: u32) -> Ran {

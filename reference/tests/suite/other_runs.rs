@@ -6,7 +6,8 @@ use reference::hand::Handled;
 use reference::list::Checked;
 use reference::run::Ran;
 use reference::sheet::Opened;
-use reference::{Calls, Fast, Filled, Sought, WorkState};
+use reference::state::Rows;
+use reference::{Calls, Cut, Fast, Filled, Sought, WorkState};
 
 /// Makes a run of the state and the budget, and hands on what a step by hand on the
 /// state has answered.
@@ -44,6 +45,10 @@ where
 
     fn pass(&self, state: WorkState, seed: u64) -> Handled {
         (self.by_hand)(&state, Fast.pass(state, seed))
+    }
+
+    fn cut(&self, state: WorkState, must: &Rows) -> Cut {
+        Fast.cut(state, must)
     }
 
     fn run(&self, state: WorkState, budget: u32) -> Ran {

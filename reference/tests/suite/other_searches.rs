@@ -4,7 +4,8 @@ use reference::hand::Handled;
 use reference::list::Checked;
 use reference::run::Ran;
 use reference::sheet::Opened;
-use reference::{Calls, Fast, Filled, Sought, WorkState};
+use reference::state::Rows;
+use reference::{Calls, Cut, Fast, Filled, Sought, WorkState};
 
 /// Searches on the state with the budget, into the list.
 pub struct OtherSearches<S>(pub S);
@@ -27,6 +28,10 @@ where
 
     fn pass(&self, state: WorkState, seed: u64) -> Handled {
         Fast.pass(state, seed)
+    }
+
+    fn cut(&self, state: WorkState, must: &Rows) -> Cut {
+        Fast.cut(state, must)
     }
 
     fn run(&self, state: WorkState, budget: u32) -> Ran {

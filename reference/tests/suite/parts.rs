@@ -1,13 +1,17 @@
 //! A script beside its answers, call by call.
 
-/// A command, the first line of its answer, and the state line, the buffer or the list
-/// after it.
+use reference::state::{rows_text, Rows};
+use reference::{End, WorkState};
+
+/// A command, the first line of its answer, the state line, the buffer or the list after
+/// it, and the line of the must-drive table after a cut step.
 #[derive(Debug)]
 pub struct Call {
     pub opcode: u8,
     pub arguments: Vec<u8>,
     pub answer: String,
     pub after: String,
+    pub must: String,
 }
 
 impl Call {
@@ -21,7 +25,7 @@ impl Call {
         opcodes.contains(&self.opcode)
     }
 
-    /// By a sweep, a chain step, a pass or a run.
+    /// By a sweep, a chain step, a pass, a cut step or a run.
     pub fn removed(&self) -> u64 {
         let words = self.answer.split_once(" removed ");
         words.map_or(0, |(_, removed)| removed.parse().expect("a number"))
@@ -36,6 +40,7 @@ fn length(script: &[u8]) -> usize {
         b'W' => 28 + 8 * usize::from(script[27]),
         b'A' | b'S' | b'C' => 1,
         b'P' => 9,
+        b'K' => 2 + 8 * usize::from(script[1]),
         b'R' => 5,
         b'L' => 3 + counted(1),
         b'T' | b'B' => 3,
@@ -65,6 +70,7 @@ fn call(script: &mut &[u8], text: &mut &str) -> Call {
         arguments: command[1..].to_vec(),
         answer: line(text),
         after: String::new(),
+        must: String::new(),
     };
     match call.opcode {
         b'L' => {}
@@ -72,7 +78,48 @@ fn call(script: &mut &[u8], text: &mut &str) -> Call {
         b'T' => call.after = cut(text, call.argument() as usize),
         _ => call.after = line(text),
     }
+    if call.opcode == b'K' {
+        call.must = line(text);
+    }
     call
+}
+
+/// The rows of a line after its first words.
+fn rows_after(line: &str, words: usize) -> Rows {
+    let mut rows = [0; 64];
+    for row in line.split(' ').skip(words) {
+        let (station, digits) = row.split_once('=').expect("a row");
+        let station: usize = station.parse().expect("a station");
+        rows[station - 1] = u64::from_str_radix(digits, 16).expect("16 digits");
+    }
+    rows
+}
+
+/// The state of a state line.
+pub fn state_of(line: &str) -> WorkState {
+    let words: Vec<&str> = line.split(' ').collect();
+    let number = |at: usize| words[at].parse().expect("a number");
+    let state = WorkState {
+        n: number(2),
+        limit: number(4),
+        place: number(6),
+        mark: words[8] == "1",
+        end: match words[10] {
+            "open" => End::Open,
+            "stable" => End::Stable,
+            _ => End::None,
+        },
+        rows: rows_after(line, 13),
+    };
+    assert_eq!(line, format!("state {state}"));
+    state
+}
+
+/// The table of the line after a cut step.
+pub fn must_of(line: &str) -> Rows {
+    let must = rows_after(line, 1);
+    assert_eq!(line, format!("must{}", rows_text(&must)));
+    must
 }
 
 /// A state that is made, and the calls from there on.

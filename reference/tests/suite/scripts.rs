@@ -15,11 +15,15 @@ fn text(script: &[u8]) -> String {
 
 #[test]
 fn answers_to_each_command() {
+    let mut one_way = [0; 64];
+    one_way[0] = 2;
     let mut script = Script::default();
     script.sweep();
     script.open(64, &[3, 0, 0, 0]);
     script.pass(2);
     script.chain();
+    script.cut(&[0; 64]);
+    script.cut(&one_way);
     script.run(7);
     script.list(&[2, 3, 1]);
     script.list(&[2, 3]);
@@ -39,6 +43,12 @@ pass 0 removed 0
 state n 3 limit 64 place 0 mark 0 end open legs 6 1=0000000000000006 2=0000000000000005 3=0000000000000003
 chain 0 removed 0
 state n 3 limit 64 place 0 mark 0 end open legs 6 1=0000000000000006 2=0000000000000005 3=0000000000000003
+cut 0 removed 0
+state n 3 limit 64 place 0 mark 0 end open legs 6 1=0000000000000006 2=0000000000000005 3=0000000000000003
+must 1=0000000000000006 2=0000000000000005 3=0000000000000003
+cut 12 removed 0
+state n 3 limit 64 place 0 mark 0 end open legs 6 1=0000000000000006 2=0000000000000005 3=0000000000000003
+must 1=0000000000000002
 run 0 steps 5 removed 0
 state n 3 limit 64 place 0 mark 0 end stable legs 6 1=0000000000000006 2=0000000000000005 3=0000000000000003
 list 0 yes
@@ -82,14 +92,23 @@ state n 18446744073709551615 limit 64 place 9 mark 1 end open legs 66 \
     assert_eq!(text(script.bytes()), expected);
 }
 
-/// A work command with so many rows after its row count.
-fn work_of_rows(count: u8, rows: usize) -> Vec<u8> {
-    let mut script = Script::default();
-    script.work(&WorkState::BLANK);
-    let mut bytes = script.bytes().to_vec();
+/// A command whose row count is its last byte, with so many rows after another count.
+fn of_rows(command: &[u8], count: u8, rows: usize) -> Vec<u8> {
+    let mut bytes = command.to_vec();
     *bytes.last_mut().expect("the row count") = count;
     bytes.extend([2, 0, 0, 0, 0, 0, 0, 0].repeat(rows));
     bytes
+}
+
+/// The commands with a row count, and the starts of their answers.
+fn commands_of_rows() -> [(Vec<u8>, &'static str); 2] {
+    let [mut work, mut cut] = [Script::default(), Script::default()];
+    work.work(&WorkState::BLANK);
+    cut.cut(&[0; 64]);
+    [
+        (work.bytes().to_vec(), "work\n"),
+        (cut.bytes().to_vec(), "cut 7 removed 0\n"),
+    ]
 }
 
 /// Rows are written up to the last that is not empty; the rest are empty again, also
@@ -114,24 +133,47 @@ fn a_work_state_of_few_rows_comes_back_as_it_was() {
 
 #[test]
 fn row_counts_above_64_stop() {
-    for count in [0, 1, 63, 64] {
-        let answer = text(&work_of_rows(count, usize::from(count)));
-        let start = format!("work\nstate n 0 limit 0 place 0 mark 0 end open legs {count}");
-        assert!(answer.starts_with(&start), "{answer}");
-    }
-    for count in [65, 128, 255] {
-        assert_eq!(text(&work_of_rows(count, 255)), "stop\n");
+    for (command, answer) in commands_of_rows() {
+        for count in [0, 1, 63, 64] {
+            let text = text(&of_rows(&command, count, usize::from(count)));
+            assert!(text.starts_with(answer), "{text}");
+            assert_eq!(
+                text.matches("=0000000000000002").count(),
+                usize::from(count)
+            );
+        }
+        for count in [65, 128, 255] {
+            assert_eq!(text(&of_rows(&command, count, 255)), "stop\n");
+        }
     }
 }
 
 #[test]
 fn cut_row_lists_stop() {
-    for count in [1, 5, 64] {
-        let whole = work_of_rows(count, usize::from(count));
-        for length in 1..whole.len() {
-            assert_eq!(text(&whole[..length]), "stop\n");
+    for (command, _) in commands_of_rows() {
+        for count in [1, 5, 64] {
+            let whole = of_rows(&command, count, usize::from(count));
+            for length in 1..whole.len() {
+                assert_eq!(text(&whole[..length]), "stop\n");
+            }
         }
     }
+}
+
+/// A must-drive table comes back as it was where the step is refused, also after one of
+/// 64 rows.
+#[test]
+fn a_must_drive_table_comes_back_as_it_was() {
+    let mut last = [0; 64];
+    last[2] = 1 << 63;
+    let mut script = Script::default();
+    script.cut(&[u64::MAX; 64]);
+    assert_eq!(script.bytes().len(), 2 + 8 * 64);
+    script.cut(&last);
+    assert_eq!(script.bytes().len(), 2 * 2 + 8 * (64 + 3));
+    let text = text(script.bytes());
+    assert!(text.contains(" 64=ffffffffffffffff\n"));
+    assert!(text.ends_with("\nmust 3=8000000000000000\n"));
 }
 
 /// The same state once more takes one byte, also after a call, and is answered like the
@@ -201,11 +243,12 @@ fn vectors_are_answered_alike() {
 fn vectors_draw_every_number() {
     let script = vectors::script();
     let text = String::from_utf8(answers(&Fast, script.bytes())).expect("text");
-    let numbers: [(&str, &[u8]); 9] = [
+    let numbers: [(&str, &[u8]); 10] = [
         ("open", &[0, 1, 2, 3, 4, 5, 6]),
         ("sweep", &[0, 7]),
         ("chain", &[0, 7]),
         ("pass", &[0, 7, 8]),
+        ("cut", &[0, 7, 11, 12]),
         ("run", &[0, 7]),
         ("list", &[0, 7, 9]),
         ("report", &[0, 7, 10]),

@@ -8,25 +8,25 @@ use crate::base::Base;
 use crate::markdown::{capital, print_by_shape, size_heads, unit};
 use crate::shapes::{Input, Inputs};
 use crate::times::{Results, Times, REPETITIONS};
-use crate::{bars, components, finder, SIZES, TABLES};
+use crate::{bars, components, cuts, finder, SIZES, TABLES};
 
 const HEAD: &str = "\
 # Benchmarks
 
 The proved library beside two Rust versions over 64-bit words (`reference/src/fast`), in one process and on the same tables. The *plain* version works through every level of every pass. The *same algorithm* does what the library does: it keeps a word of passes known to change nothing, answers at once for a seed next to all other stations, and tells most other passes that change nothing by pivots. The two differ in passes and runs alone.
 
-All numbers come from one call of the last line, on MACHINE; those of the last section may also come from the call that it names:
+All numbers come from one call of the last line, on MACHINE; those of the last two sections may also come from the calls that they name:
 
 ```
 git worktree add --detach ../base 6b2b745
 (cd ../base && rt staticlib loungeegret && rt staticlib measured)
-RUSTFLAGS='-C link-arg=-Wl,--warn-unresolved-symbols' LOUNGEEGRET_LIB=$PWD/../base/target/staticlib cargo run --release --offline --features library --bin bench --manifest-path reference/Cargo.toml -- --times target/base.times
+RUSTFLAGS='-C link-arg=-Wl,--defsym=loungeegret_first_round=0,--defsym=loungeegret_cut=0' LOUNGEEGRET_LIB=$PWD/../base/target/staticlib cargo run --release --offline --features library --bin bench --manifest-path reference/Cargo.toml -- --times target/base.times
 rt staticlib loungeegret
 rt staticlib measured
 cargo run --release --offline --features library --bin bench --manifest-path reference/Cargo.toml -- --base target/base.times > docs/BENCHMARKS.md
 ```
 
-The first three lines write the times of commit 6b2b745, *the base*: taken by the same program, on the same tables. It has no search for a round, which is not timed there, so the linker is told to let that symbol be. Without `--base` the last line leaves out what is told against them.
+The first three lines write the times of commit 6b2b745, *the base*: taken by the same program, on the same tables. It has no search for a round and no cut step, which are not timed there, so the linker is told to take their symbols for 0. Without `--base` the last line leaves out what is told against them.
 ";
 
 const NOTES: &str = "\
@@ -73,6 +73,7 @@ pub fn print(shapes: &[Inputs], results: &[Results], base: Option<&Base>) {
     println!("The most that the library may take of the plain Rust version's time, and the highest ratio of all families.\n");
     bars::print(results);
     print!("{}", finder::section());
+    print!("{}", cuts::section());
 }
 
 /// The processor's name and the number of its cores.

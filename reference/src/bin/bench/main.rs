@@ -3,11 +3,13 @@
 //!
 //! `bench` prints `docs/BENCHMARKS.md`, with `--base FILE` also the times against
 //! those in the file. `bench --times FILE` writes the times to such a file, and
-//! `bench --finder FILE` writes the section on the first round of such a document anew.
+//! `bench --finder FILE` writes the section on the first round of such a document anew,
+//! `bench --cuts FILE` the one on the cut step.
 
 mod bars;
 mod base;
 mod components;
+mod cuts;
 mod document;
 mod finder;
 mod markdown;
@@ -27,7 +29,7 @@ const SIZES: [usize; 4] = [8, 16, 32, 64];
 const TABLES: usize = 6;
 const LIMIT: usize = 64;
 
-const USAGE: &str = "usage: bench [--base FILE | --times FILE | --finder FILE]";
+const USAGE: &str = "usage: bench [--base FILE | --times FILE | --finder FILE | --cuts FILE]";
 
 fn main() {
     let arguments: Vec<String> = env::args().skip(1).collect();
@@ -36,7 +38,8 @@ fn main() {
         [] => print(None),
         ["--base", file] => Base::read(file).and_then(|base| print(Some(&base))),
         ["--times", file] => write_times(file),
-        ["--finder", file] => write_finder(file),
+        ["--finder", file] => write_section(file, finder::HEADING, finder::section),
+        ["--cuts", file] => write_section(file, cuts::HEADING, cuts::section),
         _ => Err(USAGE.into()),
     };
     if let Err(message) = done {
@@ -60,11 +63,12 @@ fn write_times(file: &str) -> Result<(), String> {
     write(file, base::lines(&results))
 }
 
-/// The section is the last one; what stands before it stays.
-fn write_finder(file: &str) -> Result<(), String> {
+/// The other sections stay. One that the document does not have yet comes last.
+fn write_section(file: &str, heading: &str, section: fn() -> String) -> Result<(), String> {
     let text = fs::read_to_string(file).map_err(|fault| format!("{file}: {fault}"))?;
-    let before = text.split(finder::HEADING).next().unwrap_or_default();
-    write(file, before.to_string() + &finder::section())
+    let (before, rest) = text.split_once(heading).unwrap_or((&text, ""));
+    let after = rest.find("\n## ").map_or("", |at| &rest[at..]);
+    write(file, before.to_string() + &section() + after)
 }
 
 fn write(file: &str, text: String) -> Result<(), String> {

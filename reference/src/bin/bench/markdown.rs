@@ -3,6 +3,7 @@
 use reference::gen::Ways;
 
 use crate::shapes::Inputs;
+use crate::times::median;
 use crate::SIZES;
 
 pub fn size_heads() -> Vec<String> {
@@ -61,6 +62,14 @@ pub fn unit(nanoseconds: f64) -> String {
     } else {
         format!("{:.2} s", nanoseconds / 1e9)
     }
+}
+
+/// Median and highest, if there are any.
+pub fn spread(numbers: Vec<f64>, text: impl Fn(f64) -> String) -> String {
+    let Some(highest) = numbers.iter().copied().max_by(f64::total_cmp) else {
+        return "–".into();
+    };
+    format!("{} / {}", text(median(numbers)), text(highest))
 }
 
 /// The digits in groups of three.

@@ -7,10 +7,9 @@ use super::aims;
 use super::searches::{Searched, LITERAL_MOST};
 use super::tables::{self, GRIDS, RUNNING_OUT, SIZES, USUAL};
 use crate::document::machine;
-use crate::markdown::{by_shape, grouped, head, row, unit};
+use crate::markdown::{by_shape, grouped, head, row, spread, unit};
 use crate::times::{median, REPETITIONS};
 
-/// The section is the last one of the document.
 pub const HEADING: &str = "\n## First round\n";
 
 const INTRODUCTION: &str = "
@@ -68,10 +67,10 @@ impl Row {
         let rust = self.all(|searched| Some(searched.over_rust()));
         let ratio = |ratio: f64| format!("{ratio:.2}");
         vec![
-            cell(nodes, |nodes| grouped(nodes as u32)),
-            cell(times, unit),
-            cell(literal, ratio),
-            cell(rust, ratio),
+            spread(nodes, |nodes| grouped(nodes as u32)),
+            spread(times, unit),
+            spread(literal, ratio),
+            spread(rust, ratio),
             self.used_up().to_string(),
         ]
     }
@@ -80,14 +79,6 @@ impl Row {
         let used_up = |searched: &&Searched| searched.sought.outcome == Outcome::UsedUp;
         self.searches.iter().filter(used_up).count()
     }
-}
-
-/// Median and highest, if there are any.
-fn cell(numbers: Vec<f64>, text: impl Fn(f64) -> String) -> String {
-    let Some(highest) = numbers.iter().copied().max_by(f64::total_cmp) else {
-        return "–".into();
-    };
-    format!("{} / {}", text(median(numbers)), text(highest))
 }
 
 fn heads() -> [String; 5] {
