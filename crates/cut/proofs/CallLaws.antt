@@ -22,7 +22,7 @@ use Rattle.roads.specs.Cut.{cut, cutNone, cutMust, dropped, verdictOf, isTwoWay
 use Rattle.roads.proofs.CheckLaws.{checked-two}
 use Rattle.roads.proofs.KeepsLaws.{cut-sound, cut-drives}
 use Rattle.filter.specs.declared.hand.Called.{Called}
-use Rattle.filter.specs.Calls.{unchanged, byHand}
+use Rattle.filter.specs.Calls.{byHand}
 use Rattle.filter.specs.Leads.{Leads}
 use Rattle.filter.specs.Stable.{CycleInvariant}
 use Rattle.filter.proofs.AfterLaws.{byHand-cases}

@@ -4,7 +4,7 @@ use mathlib.Core.List.{List}
 use Prim.Native.Nat.{ℕ}
 use Rattle.circuit.specs.declared.state.Work.{Work}
 use Rattle.circuit.specs.Card.{ending}
-use Rattle.circuit.specs.Legs.{leg, Subtable}
+use Rattle.circuit.specs.Legs.{Subtable}
 use Rattle.circuit.specs.Round.{RoundOf, NoneIn}
 use Rattle.circuit.specs.State.{rowsOf}
 use Rattle.roads.specs.Cut.{DrivesAll}

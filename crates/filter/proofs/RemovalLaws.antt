@@ -19,7 +19,6 @@ use Rattle.circuit.specs.declared.verdict.Verdict.{Verdict}
 use Rattle.circuit.specs.Legs.{leg, legs, Subtable}
 use Rattle.circuit.specs.State.{rowsOf, stray, bad, Good}
 use Rattle.circuit.specs.Round.{All}
-use Rattle.circuit.specs.Verdict.{Sound}
 use Rattle.circuit.proofs.StateLaws.{good, stray-row, stray-beyond, stray-sub}
 use Rattle.filter.specs.declared.rule.Rule.{Rule}
 use Rattle.filter.specs.declared.hand.Called.{Called}
