@@ -140,6 +140,11 @@ uint32_t loungeegret_pass(uint64_t *state, size_t state_length, size_t seed, uin
 uint32_t loungeegret_run(uint64_t *state, size_t state_length, uint32_t budget,
                          uint32_t *steps, uint32_t *removed);
 
+/* The words of a table of must-drive roads. */
+enum {
+    LOUNGEEGRET_ROWS = 64
+};
+
 /*
  * A cut step by hand, on a two-way network: at least 3 stations, and with each leg its reverse. Such a pair is a road, driven by
  * either leg. `must` has LOUNGEEGRET_ROWS words or more: the table of must-drive roads in the form of the leg table, each road in
@@ -158,18 +163,16 @@ uint32_t loungeegret_run(uint64_t *state, size_t state_length, uint32_t budget,
  *
  * What to do next: call it again with the same `must` until no leg goes and `must` does not change, since a road that became
  * must-drive counts from the next call on; where legs went, a run in between may strike more. The step is not part of a run. A run
- * strikes legs one way only, so after it the table may not be two-way any more (11), or a must-drive road may not stand (12): then
- * there are no cut steps left to make.
+ * may strike a leg and not its reverse, so after it the table may not be two-way any more (11), or a must-drive road may not stand
+ * (12): then there are no cut steps left to make.
  *
  * Every round that drives all the given must-drive roads survives and drives all the new ones, and the end becomes none only where
- * there is no such round (proved: cut-keeps). After an opening and any calls on the same words no leg is lost that such a round
- * drives, of the roads given to the cut steps that were not refused (demand3). So start with an empty table to count all rounds, and
- * hand it back as it comes: then none means that there is no round, and the round that loungeegret_first_round finds is the first of
- * the opened table (fed-back). With roads of your own, roads that the round has to use, a round without them may be struck.
+ * there is no such round (proved: cut-keeps). After a taken opening and any calls on the same words, no leg is lost that is driven by
+ * a round which drives all must-drive roads given to the cut steps that were not refused (demand3). So start with an empty table to
+ * count all rounds, and hand it back as it comes: then none means that there is no round, and the round that loungeegret_first_round
+ * finds is the first of the opened table (fed-back, first-words). With roads of your own, which the round has to use, rounds without
+ * them no longer count, and their legs may go.
  */
-enum {
-    LOUNGEEGRET_ROWS = 64
-};
 uint32_t loungeegret_cut(uint64_t *state, size_t state_length, uint64_t *must, size_t must_length,
                          uint32_t *removed);
 
