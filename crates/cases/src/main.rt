@@ -16,6 +16,8 @@
 //
 // The calls work on one current state, at first the blank one. The rows of a work state and of a must-drive table beyond the row count
 // are empty. An unknown or cut command, or an argument out of its range, is answered by `stop`, and ends the script.
+#![tactic(auto)]
+
 mod answer;
 mod line;
 mod made;

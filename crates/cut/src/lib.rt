@@ -1,4 +1,6 @@
 // The cut step on a work state, called by hand: the checks, the verdict on the two tables, the hand rules.
+#![tactic(auto)]
+
 ghost use Rattle.std.specs.Prelude.{◌≡◌, true, false, length};
 ghost use Rattle.circuit.specs.State.{is_none, Good};
 ghost use Rattle.roads.specs.Cut.{cut, is_two_way, are_roads};

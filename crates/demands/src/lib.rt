@@ -1,1 +1,3 @@
 // What the whole house promises: the theorems over opening and the calls. There is no code here.
+
+#![tactic(auto)]

@@ -1,4 +1,6 @@
 // The first round of a table: a search over work states that relies on what the filter promises, and on nothing inside it.
+#![tactic(auto)]
+
 mod leaf;
 mod node;
 mod outcome;

@@ -1,4 +1,6 @@
 // Passes that leave the table as it is, told without striking a leg.
+#![tactic(auto)]
+
 mod groups;
 mod idle;
 

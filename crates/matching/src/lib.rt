@@ -1,5 +1,7 @@
 // Matching components with stations, by augmenting paths: whether each component can have a station of its own, and which stations can be spared.
 // Inside, `free` has the stations without a component, and `owner` names the component at each other station.
+#![tactic(auto)]
+
 ghost use Rattle.std.specs.Prelude.{◌≡◌, ℕ, ◌+◌, ◌<◌, ◌≤◌, length};
 ghost use Rattle.bitset.specs.Upto.{row};
 ghost use Rattle.matching.specs.Matching.{In, Out, Inside, Exact};

@@ -1,4 +1,6 @@
 // Functions of the inside as C functions, so that they can be timed and compared by themselves. No part of the library.
+#![tactic(auto)]
+
 ghost use Rattle.circuit.specs.Legs.{leg};
 ghost use Rattle.separator.specs.Components.{components_from};
 ghost use Rattle.separator.specs.inner.Reach.{Mutual, Listed};

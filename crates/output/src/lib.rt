@@ -1,4 +1,6 @@
 // The program's text: the bytes of a sheet in, the bytes that are printed out.
+#![tactic(auto)]
+
 ghost use Rattle.std.specs.Prelude.{◌≡◌, ◌++◌, ◌+◌, ◌≤◌, length};
 ghost use Rattle.writer.specs.Text.{ascii, decimal};
 ghost use Rattle.writer.specs.Lent.{written};

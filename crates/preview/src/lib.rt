@@ -1,4 +1,6 @@
 // A step shown first: the legs that it would strike and the end that would follow. The step is made on a copy.
+#![tactic(auto)]
+
 ghost use Rattle.std.specs.Prelude.{◌≡◌};
 ghost use Rattle.preview.specs.Call.{preview_call, sweep_preview, chain_preview, pass_preview};
 

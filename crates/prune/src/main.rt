@@ -1,4 +1,6 @@
 // Reads a sheet from standard input and prints the program's text.
+#![tactic(auto)]
+
 ghost use Rattle.std.specs.Prelude.{◌≤◌, length};
 ghost use Rattle.writer.specs.inner.Writer.{Wrote};
 ghost use Rattle.output.specs.Program.{program_text};

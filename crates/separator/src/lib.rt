@@ -1,4 +1,6 @@
 // One separator: levels from a seed, components outside a level, marks, and the rule of one level.
+#![tactic(auto)]
+
 mod level;
 mod reach;
 

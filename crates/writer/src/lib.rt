@@ -1,4 +1,6 @@
 // Bytes, texts and numbers put into a lent buffer. A writer fills the start of the buffer that it is lent, and says how many bytes.
+#![tactic(auto)]
+
 ghost use Rattle.std.specs.Prelude.{[], ◌∷◌, ◌≤◌, ◌<◌, length};
 ghost use Rattle.writer.specs.Text.{digit, decimal};
 ghost use Rattle.writer.specs.inner.Writer.{Wrote};
