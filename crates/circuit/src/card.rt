@@ -4,7 +4,7 @@ ghost use Rattle.circuit.specs.Card.{number, end_code, end_of};
 ghost use Rattle.circuit.specs.State.{is_open, is_none};
 
 // The words of the radio card; `number` of specs/Card gives their numbers.
-#[derive(Drop)]
+#[derive(Clone, Copy)]
 pub enum Answer {
     Taken,
     CutSheet,
@@ -44,7 +44,7 @@ impl Answer {
     }
 }
 
-#[derive(Drop)]
+#[derive(Clone, Copy)]
 pub enum End {
     Open,
     Stable,

@@ -2,7 +2,7 @@
 use crate::card::Answer;
 
 // `len` bytes are filled: 0 where the call is refused.
-#[derive(Drop)]
+#[derive(Clone, Copy)]
 pub struct Filled {
     pub answer: Answer,
     pub len: usize,

@@ -10,7 +10,7 @@ use crate::card::Answer;
 use crate::state::{Work, is_bad_state};
 
 // What the list check hands back.
-#[derive(Drop)]
+#[derive(Clone, Copy)]
 pub struct Checked {
     pub answer: Answer,
     pub yes: bool,

@@ -6,7 +6,7 @@ ghost use Rattle.circuit.specs.State.{state, blank, fresh, moved, last_place, ba
 use crate::card::End;
 use crate::table::{Table, stray};
 
-#[derive(Drop)]
+#[derive(Clone, Copy)]
 pub struct Work {
     pub n: usize,
     pub table: Table,

@@ -7,7 +7,7 @@ ghost use Rattle.circuit.specs.Legs.{full_table, capped, difference, legs};
 ghost use Rattle.circuit.specs.State.{stray_row, stray};
 ghost use Rattle.circuit.specs.inner.Tables.{Square, full_row, some, Tells};
 
-#[derive(Drop)]
+#[derive(Clone, Copy)]
 pub struct Table {
     pub rows: [u64; 64],
 }

@@ -12,7 +12,7 @@ use circuit::{Answer, Table, Work};
 use filter::{CalledIn, Cursor};
 
 // What the cut step hands back.
-#[derive(Drop)]
+#[derive(Clone, Copy)]
 pub struct CutCalled {
     pub answer: Answer,
     pub work: Work,

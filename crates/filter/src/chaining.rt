@@ -15,7 +15,7 @@ use crate::singles::{is_single, single_words};
 use separator::Taken;
 
 // Of the compulsory legs: the stations that one leaves, those that one enters, and whether two leave or enter one station.
-#[derive(Drop)]
+#[derive(Clone, Copy)]
 struct CompulsoryLegs {
     leave: u64,
     enter: u64,

@@ -13,7 +13,7 @@ use circuit::{Answer, End, Table, Work};
 use separator::Taken;
 
 // What a run hands back.
-#[derive(Drop)]
+#[derive(Clone, Copy)]
 pub struct Ran {
     pub answer: Answer,
     pub work: Work,
@@ -22,7 +22,7 @@ pub struct Ran {
 }
 
 // Where a state is in its cycle.
-#[derive(Drop)]
+#[derive(Clone, Copy)]
 pub struct Cursor {
     pub place: usize,
     pub mark: bool,
@@ -30,7 +30,7 @@ pub struct Cursor {
 }
 
 // What a run on lent rows hands back beside them.
-#[derive(Drop)]
+#[derive(Clone, Copy)]
 pub struct RanIn {
     pub answer: Answer,
     pub at: Cursor,

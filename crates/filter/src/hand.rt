@@ -12,7 +12,7 @@ use crate::rule::{Rule, take};
 use circuit::{Answer, End, Table, Work};
 
 // What a rule called by hand hands back.
-#[derive(Drop)]
+#[derive(Clone, Copy)]
 pub struct Called {
     pub answer: Answer,
     pub work: Work,
@@ -20,7 +20,7 @@ pub struct Called {
 }
 
 // What a rule called by hand on lent rows hands back beside them.
-#[derive(Drop)]
+#[derive(Clone, Copy)]
 pub struct CalledIn {
     pub answer: Answer,
     pub at: Cursor,

@@ -11,7 +11,7 @@ use crate::passing::pass_on;
 use crate::sweeping::sweep_rows;
 use separator::Taken;
 
-#[derive(Drop)]
+#[derive(Clone, Copy)]
 pub enum Rule {
     Sweep,
     Chain,

@@ -5,7 +5,7 @@ ghost use Rattle.filter.specs.inner.Singles.{single, sole_in, SinglesOf};
 
 // Of the first rows of a table: some row is empty; the members of some row, the stations with a leg in, and of two rows; and the same of the rows
 // with one member only.
-#[derive(Drop)]
+#[derive(Clone, Copy)]
 pub(crate) struct Singles {
     pub(crate) empty: bool,
     pub(crate) reached: u64,

@@ -6,7 +6,7 @@ ghost use Rattle.finder.specs.inner.Parts.{is_no_round};
 use circuit::Answer;
 
 // How a search came out.
-#[derive(Drop)]
+#[derive(Clone, Copy)]
 pub enum Outcome {
     Refused,
     Found,
@@ -14,7 +14,7 @@ pub enum Outcome {
     UsedUp,
 }
 
-#[derive(Drop)]
+#[derive(Clone, Copy)]
 pub struct Sought {
     pub answer: Answer,
     pub outcome: Outcome,
@@ -22,7 +22,7 @@ pub struct Sought {
 }
 
 // A part of the search: how it came out, and what is left of the node budget.
-#[derive(Drop)]
+#[derive(Clone, Copy)]
 pub struct Part {
     pub outcome: Outcome,
     pub left: u32,

@@ -6,7 +6,7 @@ ghost use Rattle.idle.specs.inner.Groups.{Part, Within, Along, Reaches, GroupIn,
 use separator::{Led, grown, led_from};
 
 // `part` has stations that hang together with the pivot, `ahead` some that it leads to by legs, and `back` some that lead to it.
-#[derive(Drop)]
+#[derive(Clone, Copy)]
 pub(crate) struct Group {
     pub(crate) part: u64,
     pub(crate) ahead: Led,
@@ -14,7 +14,7 @@ pub(crate) struct Group {
 }
 
 // How many groups there are, and the stations that none has.
-#[derive(Drop)]
+#[derive(Clone, Copy)]
 pub(crate) struct Grouped {
     pub(crate) count: usize,
     pub(crate) left: u64,

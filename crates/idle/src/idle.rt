@@ -14,7 +14,7 @@ use crate::groups::{group_at, led_on, regroup};
 use separator::{Led, grown, led_from};
 
 // The first and the second stations of pairs of a level.
-#[derive(Drop)]
+#[derive(Clone, Copy)]
 struct Ends {
     tails: u64,
     heads: u64,

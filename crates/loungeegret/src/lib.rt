@@ -285,7 +285,7 @@ pub extern "C" fn loungeegret_check_list(state: &[u64], list: &[u8], yes: &mut u
 }
 
 // What a call on a state writes to a lent buffer: the station lines, or the sheet of what is left.
-#[derive(Drop)]
+#[derive(Clone, Copy)]
 enum Content {
     Lines,
     Sheet,

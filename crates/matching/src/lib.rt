@@ -8,14 +8,14 @@ ghost use Rattle.matching.specs.Matching.{In, Out, Inside, Exact};
 ghost use Rattle.matching.specs.inner.Paths.{Matched, Reached, Augmenting, Extended};
 
 // Whether there is an assignment, and the stations that some assignment leaves out.
-#[derive(Drop)]
+#[derive(Clone, Copy)]
 pub struct Assigned {
     pub complete: bool,
     pub spare: u64,
 }
 
 // Whether one component more is matched, and the stations that are then free.
-#[derive(Drop)]
+#[derive(Clone, Copy)]
 struct Extension {
     ok: bool,
     free: u64,

@@ -8,7 +8,7 @@ use circuit::{Answer, End, Table, Work};
 use filter::Rule;
 
 // What a preview hands back: the legs that would go, the end that would follow, and the state as it was given.
-#[derive(Drop)]
+#[derive(Clone, Copy)]
 pub struct Previewed {
     pub answer: Answer,
     pub work: Work,

@@ -15,7 +15,7 @@ const SHEET: usize = 1154;
 const TEXT: usize = 11835;
 
 // What reading brought: so many bytes; whether to read on; whether it failed.
-#[derive(Drop)]
+#[derive(Clone, Copy)]
 struct Got {
     len: usize,
     more: bool,

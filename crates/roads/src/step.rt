@@ -8,7 +8,7 @@ ghost use Rattle.roads.specs.Cut.{cut, is_two_way, are_roads};
 use crate::sums::mark_all;
 
 // What the step says: none or not, and the two tables that are left.
-#[derive(Drop)]
+#[derive(Clone, Copy)]
 pub struct RoadVerdict {
     pub none: bool,
     pub left: [u64; 64],

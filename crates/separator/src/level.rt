@@ -13,7 +13,7 @@ ghost use Rattle.separator.specs.inner.Spares.{part_of, CoreOf, EndsOf, Side, Se
 use crate::reach::{grown, led_from};
 
 // What one level allows: none, or the stations that some out-choice and some in-choice leave free for a bare leg.
-#[derive(Drop)]
+#[derive(Clone, Copy)]
 pub(crate) struct Spares {
     pub(crate) none: bool,
     pub(crate) out: u64,
@@ -22,7 +22,7 @@ pub(crate) struct Spares {
 
 // Two sets of stations of a component: from each of `back`, legs inside it lead to all of `ahead`, and no further. `beyond` has the stations that have a leg from
 // `ahead`.
-#[derive(Drop)]
+#[derive(Clone, Copy)]
 pub(crate) struct Core {
     pub(crate) ahead: u64,
     pub(crate) back: u64,
@@ -30,7 +30,7 @@ pub(crate) struct Core {
 }
 
 // The tails i and the heads j of the pairs (i, j) on which a mark stands.
-#[derive(Drop)]
+#[derive(Clone, Copy)]
 struct Ends {
     tails: u64,
     heads: u64,

@@ -12,7 +12,7 @@ ghost use Rattle.separator.specs.inner.Reach.{Linked};
 pub use reach::{Led, Levels, components_of, grown, led_from, levels_from, neighbours};
 
 // What was taken of a rule, that of a level or a longer one: whether the verdict is none, and whether a leg may have gone.
-#[derive(Drop)]
+#[derive(Clone, Copy)]
 pub struct Taken {
     pub none: bool,
     pub struck: bool,

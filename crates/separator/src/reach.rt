@@ -10,7 +10,7 @@ ghost use Rattle.separator.specs.Components.{grow, components_from};
 ghost use Rattle.separator.specs.inner.Reach.{Linked, Mutual, Listed, LevelsOf, LedFrom};
 
 // Level k stands at `level[k]`, for k below `count`; the other words are 0. The stations in no level are in `unreached`.
-#[derive(Drop)]
+#[derive(Clone, Copy)]
 pub struct Levels {
     pub level: [u64; 64],
     pub count: usize,
@@ -18,7 +18,7 @@ pub struct Levels {
 }
 
 // The stations that a set leads to, and those that one of them has a leg to.
-#[derive(Drop)]
+#[derive(Clone, Copy)]
 pub struct Led {
     pub all: u64,
     pub beyond: u64,

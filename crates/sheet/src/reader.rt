@@ -7,21 +7,21 @@ ghost use Rattle.sheet.specs.inner.Reader.{IsField, IsRecord};
 use circuit::Answer;
 
 // The stations that a field allows, and the offset in the part where it ends.
-#[derive(Drop)]
+#[derive(Clone, Copy)]
 struct Stations {
     set: u64,
     end: usize,
 }
 
 // A field, or its fault and the fault's offset in the part.
-#[derive(Drop)]
+#[derive(Clone, Copy)]
 enum Field {
     Allows(Stations),
     Fault(Answer, usize),
 }
 
 // A record: the stations that may follow its station, those that may come before it, and how many bytes it takes.
-#[derive(Drop)]
+#[derive(Clone, Copy)]
 pub(crate) struct Record {
     pub(crate) next: u64,
     pub(crate) prev: u64,
@@ -29,7 +29,7 @@ pub(crate) struct Record {
 }
 
 // A record, or its fault and the fault's offset in the part.
-#[derive(Drop)]
+#[derive(Clone, Copy)]
 pub(crate) enum Read {
     Whole(Record),
     Fault(Answer, usize),

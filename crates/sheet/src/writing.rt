@@ -9,7 +9,7 @@ ghost use Rattle.sheet.specs.inner.Writing.{said};
 use writer::put_byte;
 
 // The fields of a record that is written: none, the fixed next station alone, or the next set alone.
-#[derive(Drop)]
+#[derive(Clone, Copy)]
 enum Fields {
     Free,
     Fixed(u8),
