@@ -1,0 +1,10 @@
+-- `idle::is_idle` meets its contract. The invariant: the levels from k on are told, and the groups have all stations above level k (`Falling`). Assumes nothing.
+use Prim.Native.Nat.{◌-◌}
+use Rattle.idle.proofs.FallingLaws.{Falling}
+use Rattle.idle.proofs.idle.is_idle.Given as goal
+
+abbrev pub invariant-loop-k : goal.invariant-loop-k
+invariant-loop-k l = Falling l.n l.rows l.cols l.nbr l.limit l.level l.count l.groups l.out l.into l.q l.room l.k
+
+abbrev pub decreases-loop-k : goal.decreases-loop-k
+decreases-loop-k l = l.k
