@@ -15,7 +15,7 @@ use Rattle.bitset.specs.Upto.{row}
 use Rattle.bitset.proofs.BoolLaws.{not_both, cases, and_intro, cond_true}
 use Rattle.bitset.proofs.HasLaws.{member_below}
 use Rattle.bitset.proofs.QuantLaws.{below?, at_or_below, any_intro}
-use Rattle.circuit.specs.Legs.{leg, columns, without}
+use Rattle.circuit.specs.Legs.{leg, without}
 use Rattle.circuit.specs.Verdict.{says_none, leaves}
 use Rattle.circuit.specs.inner.Tables.{Columned}
 use Rattle.circuit.proofs.LegsLaws.{column_leg, table_of_ext}

@@ -4,7 +4,6 @@ use native.Mathlib.Nat.{le_refl}
 use native.Mathlib.Omega.{arith}
 use lib.ListN.{set, length-set}
 use lib.Bits.{bit_and, and_le_l}
-use borrow.Author.Tests.{not-true}
 use Rattle.bitset.specs.Upto.{row}
 use Rattle.matching.specs.Matching.{Out}
 use Rattle.bitset.proofs.HasLaws.{member_below}

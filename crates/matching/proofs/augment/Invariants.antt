@@ -1,6 +1,6 @@
 -- `matching::augment` meets its contract. The invariant is `Path`; `rest` loses a station at each turn. Assumes nothing.
 use mathlib.Core.Path.{◌≡◌}
-use Prim.Native.Nat.{◌<◌, ◌-◌, ◌^◌}
+use Prim.Native.Nat.{◌<◌, ◌^◌}
 use lib.ListN.{length}
 use Rattle.bitset.specs.Upto.{row}
 use Rattle.matching.proofs.PathLaws.{Path}

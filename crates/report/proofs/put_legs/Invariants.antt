@@ -1,6 +1,6 @@
 -- `report::put_legs` meets its contract. The invariant: of the legs of the row, those of `rest` are still to be written. The measure is how many these are.
 -- Assumes nothing.
-use Prim.Native.Nat.{◌-◌, ◌^◌, ◌<◌}
+use Prim.Native.Nat.{◌^◌, ◌<◌}
 use lib.Count.{ones}
 use Rattle.report.specs.Lines.{legs_to}
 use Rattle.writer.proofs.WriterLaws.{Writing}

@@ -9,7 +9,6 @@ use Rattle.sheet.specs.declared.Opened.{Opened}
 use Rattle.circuit.specs.declared.state.Work.{Work}
 use Rattle.circuit.specs.State.{fresh}
 use Rattle.sheet.specs.declared.reader.Read.{Read}
-use Rattle.sheet.specs.declared.reader.Read.TheVariants.{Whole, Fault}
 use Rattle.sheet.specs.Open.{read_entry}
 use Rattle.sheet.specs.inner.Reader.{IsRecord}
 use Rattle.sheet.proofs.ReaderLaws.{rest_of, record_told}

@@ -1,5 +1,4 @@
 use mathlib.Core.Path.{◌≡◌}
-use Prim.Native.Nat.{◌-◌}
 use native.Mathlib.Omega.{arith}
 use Rattle.circuit.proofs.StrayLaws.{tells_more, beyond_row}
 use Rattle.circuit.proofs.table.stray_beyond.Goals as goal

@@ -1,5 +1,5 @@
 use mathlib.Core.Path.{◌≡◌, refl}
-use Prim.Native.Nat.{◌-◌, ◌^◌}
+use Prim.Native.Nat.{◌^◌}
 use native.Mathlib.Omega.{arith}
 use Rattle.bitset.proofs.MachineLaws.{shl_next}
 use Rattle.circuit.proofs.LegsLaws.{full_row_lem}

@@ -1,5 +1,5 @@
 use mathlib.Core.Path.{◌≡◌}
-use Prim.Native.Nat.{◌+◌, ◌-◌, ◌*◌, ◌≤◌}
+use Prim.Native.Nat.{◌+◌, ◌*◌, ◌≤◌}
 use native.Mathlib.Omega.{arith}
 use Rattle.circuit.proofs.ColumnLaws.{squares_none, squares_more, square_fits}
 use Rattle.circuit.proofs.transposition.swap_quarters.Goals.{In-loop-p}

@@ -1,5 +1,5 @@
 use mathlib.Core.Path.{◌≡◌}
-use Prim.Native.Nat.{ℕ, ◌+◌, ◌-◌}
+use Prim.Native.Nat.{ℕ, ◌+◌}
 use native.Mathlib.Omega.{arith}
 use Rattle.bitset.specs.Upto.{row}
 use Rattle.circuit.proofs.ColumnLaws.{low_is, high_is, pairs_none, pairs_more}

@@ -1,6 +1,6 @@
 -- `circuit::transpose` meets its contract. The invariant: of the numbers of words and bits, the digits from b on have changed places.
 use mathlib.Core.Path.{◌≡◌}
-use Prim.Native.Nat.{◌-◌, ◌≤◌}
+use Prim.Native.Nat.{◌≤◌}
 use Rattle.circuit.proofs.ColumnLaws.{TurnedTo}
 use Rattle.circuit.proofs.transposition.transpose.Given as goal
 

@@ -1,6 +1,6 @@
 -- `groups::add_groups` meets its contract. The invariant: the groups so far have all but `left`, of which each new one takes its pivot. Assumes nothing.
 use mathlib.Core.Path.{◌≡◌}
-use Prim.Native.Nat.{ℕ, ◌-◌, ◌^◌, ◌<◌}
+use Prim.Native.Nat.{ℕ, ◌^◌, ◌<◌}
 use lib.ListN.{length}
 use lib.Count.{ones}
 use Rattle.idle.specs.inner.Groups.{Grouping}

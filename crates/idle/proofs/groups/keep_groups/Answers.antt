@@ -1,7 +1,6 @@
 use native.Mathlib.Omega.{arith}
 use borrow.Author.Rules.{rules}
 use mathlib.Core.Path.{refl, sym, ◌∙◌, subst}
-use mathlib.Core.Logic.{⊎_elim}
 use Prim.Native.Nat.{◌-◌, ◌^◌}
 use lib.Bits.{and_le_l}
 use mir.Val.{Fits}
@@ -46,22 +45,22 @@ pub loop-g-preserved : goal.loop-g-preserved
 loop-g-preserved c =
     let l = c.loop-g in
     elim c.if-old-left-eq0.branch [
-      then-old-left-eq0 w ↦
-        let new = w.carried-new.result in
-        let f : Fits w64 new.part = (let ok = w.carried-new.type_inv in search rules) in
-        let put = w.put_group.ensures in
-        let G = w.carried-new.ensures c.args.room l.invariant.4.inside c.requires.4 (old (goal.at.loop-g-preserved c).After-struct_known-1) in
-        rw (w.groups-is, w.left-is, w.count-is) (
-          put.0,
-          omega (arith, and_le_l l.left ((2 ^ 64 - 1) - new.part), l.invariant.1),
-          omega arith,
-          omega arith,
-          grouping_more l.invariant.4 G (omega arith) put.1 put.2 l.invariant.1 f.fits,
-          λ h m n. put.2 h (omega arith) (λ q. omega arith) ∙ l.invariant.5 h (omega arith) n,
-        )
-    | else-old-left-eq0 w ↦
-        rw (w.groups-is, w.left-is, w.count-is)
-        (l.invariant.0, l.invariant.1, omega arith, omega arith, l.invariant.4, λ h m n. l.invariant.5 h (omega arith) n)
+      | then-old-left-eq0 w ↦
+          let new = w.carried-new.result in
+          let f : Fits w64 new.part = (let ok = w.carried-new.type_inv in search rules) in
+          let put = w.put_group.ensures in
+          let G = w.carried-new.ensures c.args.room l.invariant.4.inside c.requires.4 (old (goal.at.loop-g-preserved c).After-struct_known-1) in
+          rw (w.groups-is, w.left-is, w.count-is) (
+            put.0,
+            omega (arith, and_le_l l.left ((2 ^ 64 - 1) - new.part), l.invariant.1),
+            omega arith,
+            omega arith,
+            grouping_more l.invariant.4 G (omega arith) put.1 put.2 l.invariant.1 f.fits,
+            λ h m n. put.2 h (omega arith) (λ q. omega arith) ∙ l.invariant.5 h (omega arith) n,
+          )
+      | else-old-left-eq0 w ↦
+          rw (w.groups-is, w.left-is, w.count-is)
+          (l.invariant.0, l.invariant.1, omega arith, omega arith, l.invariant.4, λ h m n. l.invariant.5 h (omega arith) n)
     ]
 
 pub returns : goal.returns

@@ -1,5 +1,5 @@
 use native.Mathlib.Omega.{arith}
-use Prim.Native.Nat.{ℕ, ◌-◌, ◌<◌}
+use Prim.Native.Nat.{ℕ, ◌<◌}
 use Rattle.idle.proofs.PairLaws.{joins_by, joining_start, joining_more}
 use Rattle.idle.proofs.idle.ends_above.Goals as goal
 

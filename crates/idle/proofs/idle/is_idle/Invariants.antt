@@ -1,5 +1,4 @@
 -- `idle::is_idle` meets its contract. The invariant: the levels from k on are told, and the groups have all stations above level k (`Falling`). Assumes nothing.
-use Prim.Native.Nat.{◌-◌}
 use Rattle.idle.proofs.FallingLaws.{Falling}
 use Rattle.idle.proofs.idle.is_idle.Given as goal
 

@@ -1,6 +1,6 @@
 -- `roads::crossing` meets its contract. The invariant: k and what the members that are left say make up the whole sum, and k is at most 3. Assumes nothing.
 use mathlib.Core.Path.{◌≡◌}
-use Prim.Native.Nat.{◌+◌, ◌-◌, ◌^◌, ◌≤◌, ◌<◌}
+use Prim.Native.Nat.{◌+◌, ◌^◌, ◌≤◌, ◌<◌}
 use lib.Count.{ones}
 use Rattle.bitset.specs.Sets.{sum}
 use Rattle.roads.specs.inner.Promises.{part_in}

@@ -1,5 +1,5 @@
-use mathlib.Core.Bool.{false, ◌&&◌}
-use Prim.Native.Nat.{◌+◌, ◌-◌}
+use mathlib.Core.Bool.{◌&&◌}
+use Prim.Native.Nat.{◌+◌}
 use native.Mathlib.Omega.{arith}
 use Rattle.bitset.specs.Upto.{row}
 use Rattle.bitset.specs.Sets.{any}

@@ -1,5 +1,5 @@
-use mathlib.Core.Bool.{false, ◌&&◌}
-use Prim.Native.Nat.{◌+◌, ◌-◌}
+use mathlib.Core.Bool.{◌&&◌}
+use Prim.Native.Nat.{◌+◌}
 use native.Mathlib.Omega.{arith}
 use lib.Bits.{bit_xor, xor_lt}
 use Rattle.bitset.specs.Upto.{row}

@@ -1,6 +1,5 @@
 use native.Mathlib.Omega.{arith}
 use mathlib.Core.Path.{◌≡◌}
-use Prim.Native.Nat.{◌-◌}
 use Rattle.separator.proofs.SideLaws.{side_start, side_at, side_more}
 use Rattle.separator.proofs.level.marks.Goals as goal
 

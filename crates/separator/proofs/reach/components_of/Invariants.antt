@@ -1,7 +1,7 @@
 -- `separator::reach::components_of` meets its contract. The invariant: the components found, and those of `rest`, are all components; each found has
 -- taken a station out of `rest`. Assumes nothing.
 use mathlib.Core.Path.{◌≡◌}
-use Prim.Native.Nat.{◌+◌, ◌-◌, ◌^◌, ◌≤◌, ◌<◌}
+use Prim.Native.Nat.{◌+◌, ◌^◌, ◌≤◌, ◌<◌}
 use lib.Count.{ones}
 use lib.ListN.{length}
 use Rattle.circuit.specs.Legs.{leg}

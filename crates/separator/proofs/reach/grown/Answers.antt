@@ -24,6 +24,6 @@ returns c =
     let room = c.ranges.room.fits in
     let start = c.ranges.start.fits in
     elim c.loop-left-test.branch [
-      else-loop-left-test w ↦ leaving_all _ c.args.room c.args.start room start g w.loop-left-test.false
-    | then-loop-left-test+then-last-eq0 w ↦ leaving_none _ c.args.room c.args.start room start g w.union_of_rows.ensures w.if-last-eq0.true
+      | else-loop-left-test w ↦ leaving_all _ c.args.room c.args.start room start g w.loop-left-test.false
+      | then-loop-left-test+then-last-eq0 w ↦ leaving_none _ c.args.room c.args.start room start g w.union_of_rows.ensures w.if-last-eq0.true
     ]

@@ -8,7 +8,6 @@ use native.Mathlib.Omega.{arith}
 use lib.ListN.{length, get_or, drop}
 use Rattle.bitset.specs.Sets.{has}
 use Rattle.sheet.specs.declared.reader.Field.{Field}
-use Rattle.sheet.specs.declared.reader.Field.TheVariants.{Allows}
 use Rattle.sheet.specs.Layout.{allows, fixes}
 use Rattle.sheet.specs.Open.{Got, read_set, read_fixed}
 use Rattle.sheet.specs.inner.Reader.{IsField}
