@@ -1,7 +1,7 @@
 -- `filter::find_chains` meets its contract. The measure is how many ends are left.
 use mathlib.Core.Bool.{Bool}
 use mathlib.Core.List.{List}
-use Prim.Native.Nat.{ℕ, pred, ◌-◌}
+use Prim.Native.Nat.{ℕ, pred}
 use lib.Count.{ones}
 use Rattle.filter.specs.Chain.{nexts, joined}
 use Rattle.filter.proofs.FindLaws.{Finding}

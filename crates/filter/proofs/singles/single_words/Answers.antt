@@ -1,5 +1,5 @@
 use mathlib.Core.Path.{◌≡◌, subst}
-use Prim.Native.Nat.{ℕ, ◌-◌}
+use Prim.Native.Nat.{ℕ}
 use native.Mathlib.Omega.{arith}
 use Rattle.filter.specs.inner.Singles.{SinglesOf}
 use Rattle.filter.proofs.SinglesLaws.{singles_start, singles_turn}

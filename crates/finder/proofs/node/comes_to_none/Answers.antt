@@ -1,5 +1,5 @@
 use mathlib.Core.Path.{sym, ◌∙◌}
-use Prim.Native.Nat.{◌-◌, zero-le}
+use Prim.Native.Nat.{zero-le}
 use native.Mathlib.Omega.{arith}
 use Rattle.bitset.proofs.BoolLaws.{clash}
 use Rattle.finder.proofs.NodeLaws.{closing_sweep, closing_chain, closing_none}

@@ -83,8 +83,8 @@ descend-part-requires t c =
     let least = trailing_least 64 l.rest (omega arith) l.invariant.word in
     let low : a.n - a.undecided < a.n = omega (arith, p.2) in
     let x =
-        ready a.n a.limit a.rows.now _ p.0 _ c.settle.ensures c.if-settle.false _ low (count_trailing_zeros 64 l.rest) (l.invariant.among _ least.member)
-        c.settle.new.rows _ refl (shl_one 64 (count_trailing_zeros 64 l.rest) least.below)
+    ready a.n a.limit a.rows.now _ p.0 _ c.settle.ensures c.if-settle.false _ low (count_trailing_zeros 64 l.rest) (l.invariant.among _ least.member)
+    c.settle.new.rows _ refl (shl_one 64 (count_trailing_zeros 64 l.rest) least.below)
     in
     (omega arith, (x.0, (λ q. x.1 (eqb-true _ _ q)), omega (arith, p.2), l.invariant.len))
 

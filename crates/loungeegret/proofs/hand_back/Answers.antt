@@ -1,0 +1,19 @@
+-- `loungeegret::hand_back` meets its contract: one path where the number is 0, one where it is not.
+use mathlib.Core.Path.{sym}
+use borrow.Author.Tests.{ne_eqb}
+use Rattle.loungeegret.specs.Results.{words_after}
+use Rattle.loungeegret.proofs.WordsLaws.{stores_parts}
+use Rattle.loungeegret.proofs.hand_back.Goals as goal
+
+pub returns-then-number-eq0 : goal.returns-then-number-eq0
+unfolding words_after
+returns-then-number-eq0 c =
+    let e = c.number-number.ensures in
+    let a = c.args in
+    (e, rw (sym e, c.if-number-eq0.true, c.store_cursor.ensures, c.store_changed.ensures) (stores_parts a.state.now a.rows.now a.at c.requires.0 c.requires.1))
+
+pub returns-else-number-eq0 : goal.returns-else-number-eq0
+unfolding words_after
+returns-else-number-eq0 c =
+    let e = c.number-number.ensures in
+    (e, rw (sym e, ne_eqb _ _ c.if-number-eq0.false))

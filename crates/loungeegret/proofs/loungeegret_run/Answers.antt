@@ -1,0 +1,52 @@
+-- `loungeegret::loungeegret_run` meets its contract, as `call` does.
+use borrow.Author.Rules.{rules}
+use mathlib.Core.Path.{◌≡◌, sym, ap, ◌∙◌}
+use lib.ListN.{get_or, length}
+use borrow.Author.Tests.{lt-ltb, le-ltb}
+use Rattle.circuit.specs.State.{rows_of}
+use Rattle.circuit.specs.Round.{All}
+use Rattle.filter.specs.declared.cycle.Ran.{Ran}
+use Rattle.filter.specs.Calls.{run_call}
+use Rattle.filter.specs.inner.Steps.{ran_as}
+use Rattle.filter.proofs.CallLaws.{run_call_leads}
+use Rattle.filter.proofs.RunLaws.{run_bad}
+use Rattle.loungeegret.specs.Words.{loaded}
+use Rattle.loungeegret.specs.Results.{on_state, words_after}
+use Rattle.loungeegret.proofs.WordsLaws.{out_of_range_bad, loaded_long, parts_as}
+use Rattle.loungeegret.proofs.loungeegret_run.Goals.{After-run_in-ran}
+use Rattle.loungeegret.proofs.loungeegret_run.Goals as goal
+
+-- what the call hands back
+is : (c : After-run_in-ran) → let s = c.args.state.now in
+    ran_as (get_or s 64 0) (get_or s 65 0) c.run_in-ran.new.rows c.run_in-ran.result ≡ run_call (loaded s) c.args.budget
+is c = let budget = c.args.budget in
+    parts_as (λ w. run_call w budget) (λ n l. ran_as n l c.run_in-ran.new.rows c.run_in-ran.result) c.args.state.now
+    c.size.result c.size-2.result c.load_rows-rows.result c.load_cursor.result
+    (sym c.out_of_range.ensures ∙ c.if-out_of_range.false) c.size.ensures c.size-2.ensures c.load_rows-rows.ensures c.load_cursor.ensures
+    c.run_in-ran.ensures.0
+
+pub returns-then-state-lt-STATE_WORDS : goal.returns-then-state-lt-STATE_WORDS
+unfolding on_state
+returns-then-state-lt-STATE_WORDS c = let e = lt-ltb _ _ c.if-state-lt-STATE_WORDS.true in record { number = rw e; words = rw e; steps = rw e; removed = rw e }
+
+pub returns-then-out_of_range : goal.returns-then-out_of_range
+unfolding on_state words_after
+returns-then-out_of_range c =
+    let a = c.args in
+    let e = le-ltb _ _ c.if-state-lt-STATE_WORDS.false in
+    let d = sym (run_bad (loaded a.state.now) a.budget (out_of_range_bad a.state.now (sym c.out_of_range.ensures ∙ c.if-out_of_range.true))) in
+    record { number = rw (e, ← d) c.number.ensures; words = rw (e, ← d); steps = rw (e, ← d); removed = rw (e, ← d) }
+
+pub hand_back-requires : goal.hand_back-requires
+hand_back-requires c =
+    let s = c.args.state.now in
+    let enough = c.if-state-lt-STATE_WORDS.false in
+    let long : length c.run_in-ran.new.rows ≡ 64 = ap (λ (x : Ran). length (rows_of x.work)) (is (goal.at.hand_back-requires c).After-run_in-ran) ∙ (run_call_leads All (loaded s) c.args.budget).long (loaded_long s enough) in
+    (search rules, long, λ none. c.run_in-ran.ensures.1 none ∙ c.load_rows-rows.ensures)
+
+pub returns : goal.returns
+unfolding on_state
+returns c =
+    let e = le-ltb _ _ c.if-state-lt-STATE_WORDS.false in
+    let d = is (goal.at.returns c).After-run_in-ran in
+    record { number = rw (e, ← d) c.hand_back.ensures.0; words = rw (e, ← d) c.hand_back.ensures.1; steps = rw (e, ← d); removed = rw (e, ← d) }
