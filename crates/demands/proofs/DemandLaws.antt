@@ -25,7 +25,6 @@ use Rattle.filter.proofs.HandLaws.{hand_refused}
 use Rattle.filter.proofs.RunLaws.{budgets, run_bad}
 use Rattle.cut.specs.Call.{cut_call}
 use Rattle.cut.proofs.CallLaws.{cut_refused, cut_leads, cut_keeps, cut_removed}
-use Rattle.preview.proofs.PreviewLaws.{preview_refused}
 use Rattle.demands.specs.Sequence.{Call, calling, running, cutting, asking, handed, after_all, DrivesGiven, DrivesAllGiven, OfAllRounds, is_cut, NoCuts, fed_back, no_roads}
 use Rattle.demands.specs.Demands.{Demand1, Demand2, Kept, Demand3, SentBack}
 use Rattle.demands.proofs.RefusalLaws.{opening_refused, run_refused, list_refused, report_refused, write_refused}
@@ -117,7 +116,6 @@ demand1 =
       by_hand = hand_refused;
       run = run_refused;
       cut = cut_refused;
-      preview = preview_refused;
       list = list_refused;
       report = report_refused;
       write = write_refused;

@@ -1,9 +1,8 @@
 -- The papers' examples, by computation. Assumes nothing.
 use mathlib.Core.Path.{◌≡◌, refl}
 use mathlib.Core.Bool.{true}
-use Rattle.preview.specs.Call.{preview_call}
 use Rattle.demands.specs.Definitions.{definitions}
-use Rattle.demands.specs.Examples.{listed, begun, removes, holds, every, nine_legs, ring_of_four, ring_of_five, butterfly, full_of_four, chain_of_four, two_rings, two_islands, both_of_two, one_emptied, examples, valley, dead_end, wrong_way, same_station, valleys, only_way_in, previewed}
+use Rattle.demands.specs.Examples.{listed, begun, removes, holds, every, nine_legs, ring_of_four, ring_of_five, butterfly, full_of_four, chain_of_four, two_rings, two_islands, both_of_two, one_emptied, examples, valley, dead_end, wrong_way, same_station, valleys}
 
 -- the items with ◆, and those of W-201, W-202 and W-204
 pub examples_hold : every examples ≡ true
@@ -14,8 +13,3 @@ examples_hold = refl
 pub valleys_hold : every valleys ≡ true
 unfolding definitions listed begun removes holds every valley dead_end wrong_way same_station valleys
 valleys_hold = refl
-
--- those of W-207
-pub previewed_hold : every previewed ≡ true
-unfolding definitions listed begun holds every nine_legs ring_of_four butterfly chain_of_four only_way_in previewed preview_call
-previewed_hold = refl

@@ -14,7 +14,6 @@ use Rattle.filter.specs.Calls.{run_call}
 use Rattle.filter.specs.Stable.{anew, CycleInvariant}
 use Rattle.filter.proofs.StableLaws.{begun_invariant, hand_invariant, run_invariant, stable_means}
 use Rattle.cut.proofs.CallLaws.{cut_invariant}
-use Rattle.preview.proofs.PreviewLaws.{unchanged_shows}
 use Rattle.demands.specs.Sequence.{Call, calling, running, cutting, asking, handed, after_all}
 use Rattle.demands.specs.Stable.{StableAfter}
 use Rattle.demands.proofs.DemandLaws.{all_leads, sent_back}
@@ -56,7 +55,6 @@ module _ (sheet : List ℕ) (limit : ℕ) (t : (open_call sheet limit).answer �
       let M = stable_means (after_all w cs) (reached_invariant cs) e in
       record {
         means = M;
-        previews = λ r. unchanged_shows (after_all w cs) r _ (M.hand r);
         sent_back = λ budget h.
             ap (λ (u : Work). run_call u budget) (back_anew cs) ∙ M.again budget (subst (λ (n : ℕ). n + 2 ≤ budget) (sym (all_leads w cs).stations) h);
       }

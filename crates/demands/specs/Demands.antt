@@ -16,7 +16,6 @@ use Rattle.filter.specs.declared.rule.Rule.{Rule}
 use Rattle.filter.specs.Calls.{unchanged, hand_call, idle, run_call}
 use Rattle.filter.specs.Leads.{Budgets}
 use Rattle.cut.specs.Call.{uncut, cut_call}
-use Rattle.preview.specs.Call.{preview_call, shows_nothing}
 use Rattle.demands.specs.Sequence.{Call, handed, after_all, DrivesAllGiven, NoCuts, fed_back, no_roads}
 
 -- the answer is a refusal
@@ -40,8 +39,6 @@ pub record Demand1 : Type 0 where
   pub run : (w : Work) (budget : ℕ) → Refusal (run_call w budget).answer → run_call w budget ≡ idle (run_call w budget).answer w
   -- a refused cut step hands back both tables as they were given
   pub cut : (w : Work) (must : List ℕ) → Refusal (cut_call w must).answer → cut_call w must ≡ uncut (cut_call w must).answer w must
-  -- a refused preview shows the empty table and the given end, and hands back the given state
-  pub preview : (w : Work) (r : Rule) → Refusal (preview_call w r).answer → preview_call w r ≡ shows_nothing (preview_call w r).answer w
   -- a refused list check says no
   pub list : (w : Work) (s : List ℕ) → Refusal (check_call w s).answer → (check_call w s).yes ≡ false
   -- a refused report has length 0 and changes no byte

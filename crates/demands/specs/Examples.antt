@@ -1,13 +1,11 @@
 -- Rounds from the depot wall: the items with ◆ as one list, with the step counts of W-201, and beside them what W-201, W-202 and W-204 were asked for. The valleys
--- of W-205 are a second list, previews (W-207) a third.
+-- of W-205 are a second list.
 use Rattle.std.specs.Prelude.{Bool, true, false, ◌&&◌, ◌||◌, List, [], ◌∷◌, ℕ, suc, eqb, length}
 use Rattle.std.specs.Bool.{beq}
 use Prim.Native.String.{String}
 use Rattle.bitset.specs.Sets.{all}
 use Rattle.circuit.specs.declared.state.Work.{Work}
 use Rattle.filter.specs.declared.hand.Called.{Called}
-use Rattle.filter.specs.declared.rule.Rule.{Rule}
-use Rattle.filter.specs.declared.rule.Rule.TheVariants.{Sweep, Chain, Pass}
 use Rattle.circuit.specs.declared.card.Answer.{Answer}
 use Rattle.circuit.specs.Card.{number, is_word}
 use Rattle.bitset.specs.Upto.{row}
@@ -18,7 +16,6 @@ use Rattle.sheet.specs.Open.{open_call}
 use Rattle.sheet.specs.Write.{sheet_of}
 use Rattle.filter.specs.Calls.{sweep_call, chain_call, pass_call, run_call}
 use Rattle.filter.specs.Ends.{full_budget}
-use Rattle.preview.specs.Call.{preview_call}
 
 -- a leg as the paper writes it: stations from 1
 pub data Leg : Type 0 where
@@ -47,8 +44,6 @@ pub data Example : Type 0 where
   refuses : List ℕ → ℕ → ℕ → Example
   -- the sheet written back has exactly these bytes
   writes : Start → List ℕ → Example
-  -- the preview of the rule shows exactly these legs, and the end with the word
-  shows : Start → Rule → List Leg → String → Example
 
 -- ---- what an example says
 
@@ -82,10 +77,6 @@ holds (runs s steps end) = let r = run_call (begun s) full_budget in is_number 0
 holds (lists s numbers round) = let r = check_call (begun s) numbers in is_number 0 r.answer && beq r.yes round
 holds (refuses s k at) = let r = open_call s 64 in is_number k r.answer && eqb r.at at
 holds (writes s bytes) = let r = sheet_of (begun s) in eqb (length r) (length bytes) && all (length bytes) (λ i. eqb (row r i) (row bytes i))
-holds (shows s r ls end) =
-    let w = begun s in
-    let p = preview_call w r in
-    is_number 0 p.answer && is_word end p.end && all 64 (λ i. eqb (row p.legs.rows i) (row (table_of w.n (listed ls)) i))
 
 -- each item of the list holds
 unfoldable pub every : List Example → Bool
@@ -190,21 +181,4 @@ valleys =
     ∷ passes dead_end 4 [] true
     ∷ passes wrong_way 1 [] true
     ∷ passes same_station 4 [] false
-    ∷ []
-
--- ---- W-207: steps that are shown first
-
--- with seed 3 the level of 2 and 4 strikes 2→4, and then the level of 1, which alone joins 5 to the others, gives none
-unfoldable pub only_way_in : Start
-only_way_in = table 5 (leg 1 2 ∷ leg 1 5 ∷ leg 2 3 ∷ leg 2 4 ∷ leg 3 4 ∷ leg 4 1 ∷ [])
-
--- Each kind of step with legs to strike, none with a leg struck before and without one, and nothing to strike.
-unfoldable pub previewed : List Example
-previewed =
-    shows (sheet nine_legs 64) Sweep (leg 1 2 ∷ leg 1 3 ∷ leg 2 1 ∷ []) "open"
-    ∷ shows chain_of_four Chain (leg 4 1 ∷ []) "open"
-    ∷ shows (sheet nine_legs 64) (Pass 4) (leg 1 2 ∷ leg 2 1 ∷ []) "open"
-    ∷ shows only_way_in (Pass 3) (leg 2 4 ∷ []) "none"
-    ∷ shows butterfly (Pass 1) [] "none"
-    ∷ shows ring_of_four (Pass 1) [] "open"
     ∷ []

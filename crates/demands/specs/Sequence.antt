@@ -1,9 +1,8 @@
 -- Sequences of calls from the state that an opening handed back.
-use Rattle.std.specs.Prelude.{◌≡◌, Bool, true, false, List, [], ◌∷◌, ℕ}
+use Rattle.std.specs.Prelude.{◌≡◌, Bool, true, false, List, [], ◌∷◌, ℕ, replicate}
 use Rattle.bitset.specs.Upto.{Each}
 use Rattle.circuit.specs.declared.state.Work.{Work}
 use Rattle.circuit.specs.Card.{card}
-use Rattle.circuit.specs.Legs.{no_legs}
 use Rattle.circuit.specs.Round.{RoundOf}
 use Rattle.circuit.specs.State.{rows_of}
 use Rattle.roads.specs.Cut.{DrivesAll}
@@ -11,13 +10,12 @@ use Rattle.filter.specs.declared.rule.Rule.{Rule}
 use Rattle.filter.specs.Calls.{hand_call, run_call}
 use Rattle.cut.specs.Call.{cut_call}
 
--- a call that leaves the state as it is: a list check, a report into a buffer, the sheet written into a buffer, the preview of a rule, the search
--- for the first round with a node budget and a lent list
+-- a call that hands back no state: a list check, a report into a buffer, the sheet written into a buffer, the search for the first round
+-- with a node budget and a lent list
 pub data Query : Type 0 where
   checking : List ℕ → Query
   reporting : List ℕ → Query
   writing : List ℕ → Query
-  previewing : Rule → Query
   seeking : ℕ → List ℕ → Query
 
 -- a call of a sequence: a rule by hand, a run with a budget, a cut step with a table of must-drive roads, a query
@@ -76,4 +74,4 @@ fed_back w m (cutting _ ∷ cs) = cutting m ∷ fed_back (handed w (cutting m)) 
 fed_back w m (asking q ∷ cs) = asking q ∷ fed_back (handed w (asking q)) m cs
 
 abbrev pub no_roads : List ℕ
-no_roads = no_legs
+no_roads = replicate 64 0

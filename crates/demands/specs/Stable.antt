@@ -1,18 +1,15 @@
 -- What a stable end means after a list of calls, and what it does not promise (W-212).
-use Rattle.std.specs.Prelude.{◌≡◌, Bool, true, cond, ◌&&◌, List, [], ◌∷◌, ℕ, ◌+◌, ◌≤◌, eqb}
+use Rattle.std.specs.Prelude.{◌≡◌, Bool, true, ◌&&◌, List, [], ◌∷◌, ℕ, ◌+◌, ◌≤◌, eqb}
 use Rattle.circuit.specs.declared.state.Work.{Work}
-use Rattle.circuit.specs.Card.{card, is_word}
+use Rattle.circuit.specs.Card.{is_word}
 use Rattle.circuit.specs.Legs.{legs}
 use Rattle.circuit.specs.Round.{RoundOf, All, Drivable}
 use Rattle.circuit.specs.State.{rows_of}
 use Rattle.sheet.specs.Open.{open_call}
 use Rattle.sheet.specs.Write.{sheet_of}
-use Rattle.filter.specs.declared.rule.Rule.{Rule}
-use Rattle.filter.specs.Rule.{stray_seed}
 use Rattle.filter.specs.Calls.{run_call}
 use Rattle.filter.specs.Ends.{full_budget}
 use Rattle.filter.specs.Stable.{one_cycle, StableMeans}
-use Rattle.preview.specs.Call.{preview_call, shows_nothing}
 use Rattle.demands.specs.Sequence.{Call, after_all}
 use Rattle.demands.specs.Examples.{Start, table, leg, begun}
 
@@ -20,8 +17,6 @@ use Rattle.demands.specs.Examples.{Start, table, leg, begun}
 pub record StableAfter (w : Work) (cs : List Call) : Type 0 where
   -- no sweep, chain step or pass by hand changes anything more
   pub means : StableMeans (after_all w cs)
-  -- every preview shows the empty table, with the end stable; a stray seed is refused (W-207)
-  pub previews : (r : Rule) → preview_call (after_all w cs) r ≡ shows_nothing (cond (stray_seed (after_all w cs).n r) (card 8) (card 0)) (after_all w cs)
   -- the sheet of what is left, sent back and opened with the same limit, runs to the same state in one cycle
   pub sent_back : (budget : ℕ) → w.n + 2 ≤ budget → run_call (open_call (sheet_of (after_all w cs)) w.limit).work budget ≡ one_cycle (after_all w cs)
 
