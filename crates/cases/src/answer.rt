@@ -5,6 +5,7 @@ use cut::CutCalled;
 use filter::{Called, Ran};
 use preview::Previewed;
 use sheet::Opened;
+use std::io;
 
 fn put_end(line: &mut [u8; LINE], at: usize, end: End) -> usize {
     match end {
@@ -21,7 +22,7 @@ fn put_table(line: &mut [u8; LINE], at: usize, table: Table) -> usize {
     put_rows(line, at, &rows)
 }
 
-fn print_state(work: Work) {
+fn print_state(rt: &impl Print, work: Work) -> io::Result<()> {
     let table = work.table;
     let end = work.end;
     let mut line = [0u8; LINE];
@@ -32,43 +33,50 @@ fn print_state(work: Work) {
     let at = put_end(&mut line, at, end);
     let at = put_table(&mut line, at, table);
     let at = put(&mut line, at, b"\n");
-    print_line(line, at);
+    print_line(rt, line, at)
 }
 
 // A line of two numbers.
-fn print_pair(first: &[u8], x: u64, second: &[u8], y: u64) {
+fn print_pair(rt: &impl Print, first: &[u8], x: u64, second: &[u8], y: u64) -> io::Result<()> {
     let mut line = [0u8; LINE];
     let at = put_field(&mut line, 0, first, x);
     let at = put_field(&mut line, at, second, y);
     let at = put(&mut line, at, b"\n");
-    print_line(line, at);
+    print_line(rt, line, at)
 }
 
-pub fn print_opened(opened: Opened) {
+pub fn print_opened(rt: &impl Print, opened: Opened) -> io::Result<()> {
     let answer = opened.answer;
-    print_pair(b"open ", answer.number() as u64, b" at ", opened.at as u64);
-    print_state(opened.work);
+    print_pair(
+        rt,
+        b"open ",
+        answer.number() as u64,
+        b" at ",
+        opened.at as u64,
+    )?;
+    print_state(rt, opened.work)
 }
 
-pub fn print_work(work: Work) {
-    print(b"work\n");
-    print_state(work);
+pub fn print_work(rt: &impl Print, work: Work) -> io::Result<()> {
+    print(rt, b"work\n")?;
+    print_state(rt, work)
 }
 
 // A sweep, a chain step or a pass, by its name.
-pub fn print_called(name: &[u8], called: Called) {
+pub fn print_called(rt: &impl Print, name: &[u8], called: Called) -> io::Result<()> {
     let answer = called.answer;
     print_pair(
+        rt,
         name,
         answer.number() as u64,
         b" removed ",
         called.removed as u64,
-    );
-    print_state(called.work);
+    )?;
+    print_state(rt, called.work)
 }
 
 // A preview: the end that would follow and the legs that would go, and the state that it hands back.
-pub fn print_previewed(previewed: Previewed) {
+pub fn print_previewed(rt: &impl Print, previewed: Previewed) -> io::Result<()> {
     let answer = previewed.answer;
     let end = previewed.end;
     let legs = previewed.legs;
@@ -77,41 +85,42 @@ pub fn print_previewed(previewed: Previewed) {
     let at = put_end(&mut line, at, end);
     let at = put_table(&mut line, at, legs);
     let at = put(&mut line, at, b"\n");
-    print_line(line, at);
-    print_state(previewed.work);
+    print_line(rt, line, at)?;
+    print_state(rt, previewed.work)
 }
 
-fn print_must(must: [u64; 64]) {
+fn print_must(rt: &impl Print, must: [u64; 64]) -> io::Result<()> {
     let mut line = [0u8; LINE];
     let at = put(&mut line, 0, b"must");
     let at = put_rows(&mut line, at, &must);
     let at = put(&mut line, at, b"\n");
-    print_line(line, at);
+    print_line(rt, line, at)
 }
 
 // A cut step, with the must-drive table that it hands back.
-pub fn print_cut(called: CutCalled) {
+pub fn print_cut(rt: &impl Print, called: CutCalled) -> io::Result<()> {
     let answer = called.answer;
     let must = called.must;
     print_pair(
+        rt,
         b"cut ",
         answer.number() as u64,
         b" removed ",
         called.removed as u64,
-    );
-    print_state(called.work);
-    print_must(must);
+    )?;
+    print_state(rt, called.work)?;
+    print_must(rt, must)
 }
 
-pub fn print_ran(ran: Ran) {
+pub fn print_ran(rt: &impl Print, ran: Ran) -> io::Result<()> {
     let answer = ran.answer;
     let mut line = [0u8; LINE];
     let at = put_field(&mut line, 0, b"run ", answer.number() as u64);
     let at = put_field(&mut line, at, b" steps ", ran.steps as u64);
     let at = put_field(&mut line, at, b" removed ", ran.removed as u64);
     let at = put(&mut line, at, b"\n");
-    print_line(line, at);
-    print_state(ran.work);
+    print_line(rt, line, at)?;
+    print_state(rt, ran.work)
 }
 
 fn put_yes(line: &mut [u8; LINE], at: usize, yes: bool) -> usize {
@@ -122,50 +131,56 @@ fn put_yes(line: &mut [u8; LINE], at: usize, yes: bool) -> usize {
     }
 }
 
-pub fn print_checked(checked: Checked) {
+pub fn print_checked(rt: &impl Print, checked: Checked) -> io::Result<()> {
     let answer = checked.answer;
     let mut line = [0u8; LINE];
     let at = put_field(&mut line, 0, b"list ", answer.number() as u64);
     let at = put_yes(&mut line, at, checked.yes);
-    print_line(line, at);
+    print_line(rt, line, at)
 }
 
 // A call that fills a buffer, by its name.
-fn print_length(name: &[u8], filled: Filled) {
+fn print_length(rt: &impl Print, name: &[u8], filled: Filled) -> io::Result<()> {
     let answer = filled.answer;
-    print_pair(name, answer.number() as u64, b" length ", filled.len as u64);
+    print_pair(
+        rt,
+        name,
+        answer.number() as u64,
+        b" length ",
+        filled.len as u64,
+    )
 }
 
 // A line of bytes in hexadecimal.
-fn print_bytes(bytes: &[u8]) {
+fn print_bytes(rt: &impl Print, bytes: &[u8]) -> io::Result<()> {
     let mut line = [0u8; LINE];
     let at = put_bytes(&mut line, 0, bytes);
     let at = put(&mut line, at, b"\n");
-    print_line(line, at);
+    print_line(rt, line, at)
 }
 
-fn print_report(work: Work, buf: &mut [u8]) {
-    print_length(b"report ", report::report(work, buf));
-    print(buf);
-    print(b"\n");
+fn print_report(rt: &impl Print, work: Work, buf: &mut [u8]) -> io::Result<()> {
+    print_length(rt, b"report ", report::report(work, buf))?;
+    print(rt, buf)?;
+    print(rt, b"\n")
 }
 
-fn print_written(work: Work, buf: &mut [u8]) {
-    print_length(b"write ", sheet::write(work, buf));
-    print_bytes(buf);
+fn print_written(rt: &impl Print, work: Work, buf: &mut [u8]) -> io::Result<()> {
+    print_length(rt, b"write ", sheet::write(work, buf))?;
+    print_bytes(rt, buf)
 }
 
 // A report or a written sheet, by its opcode. The whole buffer is printed, so that a byte past what is filled that has changed is
 // seen.
-pub fn print_filled(opcode: u8, work: Work, buf: &mut [u8]) {
+pub fn print_filled(rt: &impl Print, opcode: u8, work: Work, buf: &mut [u8]) -> io::Result<()> {
     match opcode {
-        b'T' => print_report(work, buf),
-        _ => print_written(work, buf),
+        b'T' => print_report(rt, work, buf),
+        _ => print_written(rt, work, buf),
     }
 }
 
 // The first round. The whole list is printed, so that a byte that has changed where none is found is seen.
-pub fn print_first(work: Work, budget: u32, list: &mut [u8]) {
+pub fn print_first(rt: &impl Print, work: Work, budget: u32, list: &mut [u8]) -> io::Result<()> {
     let sought = finder::first_round(work, budget, list);
     let answer = sought.answer;
     let outcome = sought.outcome;
@@ -174,6 +189,6 @@ pub fn print_first(work: Work, budget: u32, list: &mut [u8]) {
     let at = put_field(&mut line, at, b" outcome ", outcome.code() as u64);
     let at = put_field(&mut line, at, b" nodes ", sought.nodes as u64);
     let at = put(&mut line, at, b"\n");
-    print_line(line, at);
-    print_bytes(list);
+    print_line(rt, line, at)?;
+    print_bytes(rt, list)
 }

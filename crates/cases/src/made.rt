@@ -1,10 +1,11 @@
 // The commands that make a state of their own, by opening a sheet or word by word, and such a command once more.
-ghost use Rattle.std.specs.Prelude.{◌+◌, ◌*◌, ◌≤◌, ◌<◌, length};
+ghost use Rattle.std.specs.Prelude.{◌+◌, ◌*◌, ◌≤◌, ◌<◌, length, IfOk};
 
 use crate::answer::{print_opened, print_work};
 use crate::read::{read_rows, read_u16, read_u64};
 use crate::step::{Step, stop};
 use circuit::{End, Table, Work};
+use std::io;
 
 // An opcode, three words, the mark, the end and the row count. A contract writes it out.
 const WORK_HEAD: usize = 28;
@@ -14,24 +15,24 @@ fn end_of(code: u8) -> End {
     End::of_code(code as u64)
 }
 
-fn open(part: &[u8], work: Work) -> Step
-    ensures { result.taken ≤ length part.now }
+fn open(rt: &impl Print, part: &[u8], work: Work) -> io::Result<Step>
+    ensures { IfOk result (λ step. step.taken ≤ length part.now) }
 {
     if part.len() < 11 {
-        return stop(work);
+        return Ok(stop(work));
     }
     let limit = read_u64(part, 1) as usize;
     let end = 11 + read_u16(part, 9) as usize;
     if part.len() < end {
-        return stop(work);
+        return Ok(stop(work));
     }
     let opened = sheet::open(&part[11..end], limit);
-    print_opened(opened);
+    print_opened(rt, opened)?;
     let next = opened.work;
-    Step {
+    Ok(Step {
         taken: end,
         work: next,
-    }
+    })
 }
 
 // The state of a command that is whole and has so many rows.
@@ -53,28 +54,28 @@ fn read_work(part: &[u8], count: usize) -> Work
     )
 }
 
-fn set_work(part: &[u8], work: Work) -> Step
-    ensures { result.taken ≤ length part.now }
+fn set_work(rt: &impl Print, part: &[u8], work: Work) -> io::Result<Step>
+    ensures { IfOk result (λ step. step.taken ≤ length part.now) }
 {
     if part.len() < WORK_HEAD {
-        return stop(work);
+        return Ok(stop(work));
     }
     if 1 < part[25] || 2 < part[26] {
-        return stop(work);
+        return Ok(stop(work));
     }
     // Tested by itself: of a test behind `||` the check keeps nothing.
     let count = part[27];
     if 64 < count {
-        return stop(work);
+        return Ok(stop(work));
     }
     let count = count as usize;
     let taken = WORK_HEAD + 8 * count;
     if part.len() < taken {
-        return stop(work);
+        return Ok(stop(work));
     }
     let next = read_work(part, count);
-    print_work(next);
-    Step { taken, work: next }
+    print_work(rt, next)?;
+    Ok(Step { taken, work: next })
 }
 
 // Where the last command that made a state starts, after the one at a place was played.
@@ -89,30 +90,30 @@ pub fn last_made(opcode: u8, at: usize, made: usize) -> usize
 }
 
 // A command that makes a state; any other is unknown here.
-pub fn make(part: &[u8], work: Work) -> Step
+pub fn make(rt: &impl Print, part: &[u8], work: Work) -> io::Result<Step>
     requires { 1 ≤ length part.now }
-    ensures { result.taken ≤ length part.now }
+    ensures { IfOk result (λ step. step.taken ≤ length part.now) }
 {
     let opcode = part[0];
     match opcode {
-        b'O' => open(part, work),
-        b'W' => set_work(part, work),
-        _ => stop(work),
+        b'O' => open(rt, part, work),
+        b'W' => set_work(rt, part, work),
+        _ => Ok(stop(work)),
     }
 }
 
 // The command that starts at `made` in the script, once more.
-pub fn again(script: &[u8], made: usize, work: Work) -> Step
+pub fn again(rt: &impl Print, script: &[u8], made: usize, work: Work) -> io::Result<Step>
     requires { made < length script.now }
-    ensures { result.taken ≤ 1 }
+    ensures { IfOk result (λ step. step.taken ≤ 1) }
 {
-    let step = make(&script[made..], work);
+    let step = make(rt, &script[made..], work)?;
     if step.taken == 0 {
-        return stop(work);
+        return Ok(stop(work));
     }
     let next = step.work;
-    Step {
+    Ok(Step {
         taken: 1,
         work: next,
-    }
+    })
 }

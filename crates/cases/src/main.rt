@@ -25,20 +25,21 @@ mod read;
 mod show;
 mod step;
 
-ghost use Rattle.std.specs.Prelude.{◌≡◌, ◌+◌, ◌≤◌, ◌<◌, length};
+ghost use Rattle.std.specs.Prelude.{◌≡◌, ◌+◌, ◌≤◌, ◌<◌, length, IfOk};
 
 use answer::{print_called, print_checked, print_cut, print_filled, print_first, print_ran};
 use circuit::Work;
 use filter::Called;
-use libc::STDIN_FILENO;
 use line::print;
 use made::{again, last_made, make};
 use read::{read_rows, read_u16, read_u32, read_u64, wide};
 use show::show;
+use std::io;
+use std::io::Read;
 use step::{Step, stop};
 
 // The longest script; what is past it is not read.
-const SCRIPT: usize = 524288;
+const SCRIPT: u64 = 524288;
 
 // The longest report buffer.
 const REPORT: usize = 16384;
@@ -53,167 +54,167 @@ const CUT_HEAD: usize = 2;
 const LIST: usize = 256;
 
 // A rule called by hand by a command of so many bytes, and its answer.
-fn by_hand(name: &[u8], called: Called, taken: usize) -> Step
-    ensures { result.taken ≡ taken }
+fn by_hand(rt: &impl Print, name: &[u8], called: Called, taken: usize) -> io::Result<Step>
+    ensures { IfOk result (λ step. step.taken ≡ taken) }
 {
-    print_called(name, called);
+    print_called(rt, name, called)?;
     let work = called.work;
-    Step { taken, work }
+    Ok(Step { taken, work })
 }
 
-fn pass(part: &[u8], work: Work) -> Step
-    ensures { result.taken ≤ length part.now }
+fn pass(rt: &impl Print, part: &[u8], work: Work) -> io::Result<Step>
+    ensures { IfOk result (λ step. step.taken ≤ length part.now) }
 {
     if part.len() < 9 {
-        return stop(work);
+        return Ok(stop(work));
     }
     let seed = read_u64(part, 1) as usize;
-    by_hand(b"pass ", filter::pass(work, seed), 9)
+    by_hand(rt, b"pass ", filter::pass(work, seed), 9)
 }
 
-fn cut_step(part: &[u8], work: Work) -> Step
-    ensures { result.taken ≤ length part.now }
+fn cut_step(rt: &impl Print, part: &[u8], work: Work) -> io::Result<Step>
+    ensures { IfOk result (λ step. step.taken ≤ length part.now) }
 {
     if part.len() < CUT_HEAD {
-        return stop(work);
+        return Ok(stop(work));
     }
     let count = part[1];
     if 64 < count {
-        return stop(work);
+        return Ok(stop(work));
     }
     let count = count as usize;
     let taken = CUT_HEAD + 8 * count;
     if part.len() < taken {
-        return stop(work);
+        return Ok(stop(work));
     }
     let called = cut::cut(work, read_rows(part, CUT_HEAD, count));
-    print_cut(called);
+    print_cut(rt, called)?;
     let next = called.work;
-    Step { taken, work: next }
+    Ok(Step { taken, work: next })
 }
 
-fn run(part: &[u8], work: Work) -> Step
-    ensures { result.taken ≤ length part.now }
+fn run(rt: &impl Print, part: &[u8], work: Work) -> io::Result<Step>
+    ensures { IfOk result (λ step. step.taken ≤ length part.now) }
 {
     if part.len() < 5 {
-        return stop(work);
+        return Ok(stop(work));
     }
     let ran = filter::run(work, read_u32(part, 1));
-    print_ran(ran);
+    print_ran(rt, ran)?;
     let next = ran.work;
-    Step {
+    Ok(Step {
         taken: 5,
         work: next,
-    }
+    })
 }
 
-fn check_list(part: &[u8], work: Work) -> Step
-    ensures { result.taken ≤ length part.now }
+fn check_list(rt: &impl Print, part: &[u8], work: Work) -> io::Result<Step>
+    ensures { IfOk result (λ step. step.taken ≤ length part.now) }
 {
     if part.len() < 3 {
-        return stop(work);
+        return Ok(stop(work));
     }
     let end = 3 + read_u16(part, 1) as usize;
     if part.len() < end {
-        return stop(work);
+        return Ok(stop(work));
     }
-    print_checked(work.check_list(&part[3..end]));
-    Step { taken: end, work }
+    print_checked(rt, work.check_list(&part[3..end]))?;
+    Ok(Step { taken: end, work })
 }
 
 // A report or a written sheet, by its opcode, into the first bytes of a buffer.
-fn fill(part: &[u8], work: Work, buf: &mut [u8]) -> Step
-    ensures { result.taken ≤ length part.now }
+fn fill(rt: &impl Print, part: &[u8], work: Work, buf: &mut [u8]) -> io::Result<Step>
+    ensures { IfOk result (λ step. step.taken ≤ length part.now) }
 {
     if part.len() < 3 {
-        return stop(work);
+        return Ok(stop(work));
     }
     let len = read_u16(part, 1) as usize;
     if buf.len() < len {
-        return stop(work);
+        return Ok(stop(work));
     }
     let opcode = part[0];
-    print_filled(opcode, work, &mut buf[0..len]);
-    Step { taken: 3, work }
+    print_filled(rt, opcode, work, &mut buf[0..len])?;
+    Ok(Step { taken: 3, work })
 }
 
-fn report(part: &[u8], work: Work) -> Step
-    ensures { result.taken ≤ length part.now }
+fn report(rt: &impl Print, part: &[u8], work: Work) -> io::Result<Step>
+    ensures { IfOk result (λ step. step.taken ≤ length part.now) }
 {
     let mut buf = [b'.'; REPORT];
-    fill(part, work, &mut buf)
+    fill(rt, part, work, &mut buf)
 }
 
-fn write(part: &[u8], work: Work) -> Step
-    ensures { result.taken ≤ length part.now }
+fn write(rt: &impl Print, part: &[u8], work: Work) -> io::Result<Step>
+    ensures { IfOk result (λ step. step.taken ≤ length part.now) }
 {
     let mut buf = [b'.'; SHEET];
-    fill(part, work, &mut buf)
+    fill(rt, part, work, &mut buf)
 }
 
-fn first_round(part: &[u8], work: Work) -> Step
-    ensures { result.taken ≤ length part.now }
+fn first_round(rt: &impl Print, part: &[u8], work: Work) -> io::Result<Step>
+    ensures { IfOk result (λ step. step.taken ≤ length part.now) }
 {
     if part.len() < 6 {
-        return stop(work);
+        return Ok(stop(work));
     }
     let mut list = [b'.'; LIST];
     let len = wide(part[5]) as usize;
-    print_first(work, read_u32(part, 1), &mut list[0..len]);
-    Step { taken: 6, work }
+    print_first(rt, work, read_u32(part, 1), &mut list[0..len])?;
+    Ok(Step { taken: 6, work })
 }
 
-fn command(part: &[u8], work: Work) -> Step
+fn command(rt: &impl Print, part: &[u8], work: Work) -> io::Result<Step>
     requires { 1 ≤ length part.now }
-    ensures { result.taken ≤ length part.now }
+    ensures { IfOk result (λ step. step.taken ≤ length part.now) }
 {
     let opcode = part[0];
     match opcode {
-        b'O' | b'W' => make(part, work),
-        b'S' => by_hand(b"sweep ", filter::sweep(work), 1),
-        b'C' => by_hand(b"chain ", filter::chain(work), 1),
-        b'P' => pass(part, work),
-        b'V' => show(part, work),
-        b'K' => cut_step(part, work),
-        b'R' => run(part, work),
-        b'L' => check_list(part, work),
-        b'T' => report(part, work),
-        b'B' => write(part, work),
-        b'F' => first_round(part, work),
-        _ => stop(work),
+        b'O' | b'W' => make(rt, part, work),
+        b'S' => by_hand(rt, b"sweep ", filter::sweep(work), 1),
+        b'C' => by_hand(rt, b"chain ", filter::chain(work), 1),
+        b'P' => pass(rt, part, work),
+        b'V' => show(rt, part, work),
+        b'K' => cut_step(rt, part, work),
+        b'R' => run(rt, part, work),
+        b'L' => check_list(rt, part, work),
+        b'T' => report(rt, part, work),
+        b'B' => write(rt, part, work),
+        b'F' => first_round(rt, part, work),
+        _ => Ok(stop(work)),
     }
 }
 
 // The command at a place of the script; the last one that made a state starts at `made`.
-fn next_step(script: &[u8], at: usize, made: usize, work: Work) -> Step
+fn next_step(rt: &impl Print, script: &[u8], at: usize, made: usize, work: Work) -> io::Result<Step>
     requires { (at < length script.now) × (made < length script.now) }
-    ensures { at + result.taken ≤ length script.now }
+    ensures { IfOk result (λ step. at + step.taken ≤ length script.now) }
 {
     if script[at] == b'A' {
-        return again(script, made, work);
+        return again(rt, script, made, work);
     }
-    command(&script[at..], work)
+    command(rt, &script[at..], work)
 }
 
-fn play(script: &[u8]) {
+fn play(rt: &impl Print, script: &[u8]) -> io::Result<()> {
     let mut work = Work::blank();
     let mut made = 0usize;
     let mut at = 0usize;
     while at < script.len() {
-        let step = next_step(script, at, made, work);
+        let step = next_step(rt, script, at, made, work)?;
         if step.taken == 0 {
-            print(b"stop\n");
-            return;
+            return print(rt, b"stop\n");
         }
         made = last_made(script[at], at, made);
         at += step.taken;
         let next = step.work;
         work = next;
     }
+    Ok(())
 }
 
-fn main() {
-    let mut script = [0u8; SCRIPT];
-    let len = io::read_full(STDIN_FILENO, &mut script);
-    play(&script[..len]);
+fn main(rt: HostRuntime) -> io::Result<()> {
+    let mut script = Vec::new(rt.alloc());
+    rt.stdin().take(SCRIPT).read_to_end(&mut script)?;
+    play(&rt, &script)
 }

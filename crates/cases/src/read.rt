@@ -31,10 +31,8 @@ pub fn read_rows(s: &[u8], at: usize, count: usize) -> [u64; 64]
     requires { (count ≤ 64) × (at + 8 * count ≤ length s.now) }
 {
     let mut rows = [0u64; 64];
-    let mut i = 0usize;
-    while i < count {
+    for i in 0..count {
         rows[i] = read_u64(s, at + 8 * i);
-        i += 1;
     }
     rows
 }
