@@ -1,12 +1,14 @@
 // Reads a sheet from standard input and prints the program's text.
 #![tactic(auto)]
 
-ghost use Rattle.std.specs.Prelude.{◌≤◌, length};
+ghost use Rattle.std.specs.Prelude.{◌≤◌, length, take, IfOk};
+ghost use Rattle.std.specs.Io.KnownBytes.{Consumes};
 ghost use Rattle.writer.specs.inner.Writer.{Wrote};
 ghost use Rattle.output.specs.Program.{program_text};
 ghost use Rattle.output.specs.Sizes.{program_most};
 
-use libc::{STDERR_FILENO, STDIN_FILENO, STDOUT_FILENO};
+use std::io;
+use std::io::{ErrorKind, Read};
 
 // The first 1,154 bytes decide the text (`first_bytes_print`).
 const SHEET: usize = 1154;
@@ -14,59 +16,48 @@ const SHEET: usize = 1154;
 // No text is longer (`program_most`).
 const TEXT: usize = 11835;
 
-// What reading brought: so many bytes; whether to read on; whether it failed.
+// What one read brought: so many bytes; whether to read on.
 #[derive(Clone, Copy)]
 struct Got {
     len: usize,
     more: bool,
-    failed: bool,
 }
 
 // One read. A call that was interrupted is tried again.
-fn read_some(rest: &mut [u8]) -> Got
-    ensures { result.len ≤ length rest.old }
+fn read_some<R: Read>(input: &mut R, rest: &mut [u8]) -> io::Result<Got>
+    ensures within { IfOk result (λ got. got.len ≤ length rest.old) }
+    ensures bytes { IfOk result (λ got. Consumes (R.remaining input.old) (R.remaining input.new) (take got.len rest.new)) }
 {
-    let got = libc::read(STDIN_FILENO, rest);
-    if got < 0 {
-        let again = os::errno() == libc::EINTR;
-        return Got {
-            len: 0,
-            more: again,
-            failed: !again,
-        };
-    }
-    let len = io::count(got, rest);
-    Got {
-        len,
-        more: 0 < len,
-        failed: false,
+    match input.read(rest) {
+        Ok(len) => Ok(Got { len, more: 0 < len }),
+        Err(e) => {
+            if e.kind() == ErrorKind::Interrupted {
+                Ok(Got { len: 0, more: true })
+            } else {
+                Err(e)
+            }
+        }
     }
 }
 
-// Reads until the input ends, the buffer is full or a read fails. A proved loop has to end, and nothing says that the input does, so
-// the turns are counted down from a number that no run uses up.
-fn read_sheet(buf: &mut [u8]) -> Got
-    ensures { result.len ≤ length buf.new }
+// Reads until the input ends, the buffer is full or a read fails: what it read was the front of the input. A proved loop has to end,
+// and nothing says that the input does, so the turns are counted, up to a number that no run reaches.
+fn read_sheet<R: Read>(input: &mut R, buf: &mut [u8]) -> io::Result<usize>
+    ensures within { IfOk result (λ len. len ≤ length buf.new) }
+    ensures bytes { IfOk result (λ len. Consumes (R.remaining input.old) (R.remaining input.new) (take len buf.new)) }
 {
     let mut len = 0usize;
-    let mut turns = u64::MAX;
-    while turns > 0 && len < buf.len() {
-        let got = read_some(&mut buf[len..]);
+    for _ in 0..u64::MAX {
+        if buf.len() <= len {
+            break;
+        }
+        let got = read_some(input, &mut buf[len..])?;
         len += got.len;
         if !got.more {
-            return Got {
-                len,
-                more: false,
-                failed: got.failed,
-            };
+            break;
         }
-        turns -= 1;
     }
-    Got {
-        len,
-        more: false,
-        failed: false,
-    }
+    Ok(len)
 }
 
 // The program's text for the sheet, into a buffer that has room for every text.
@@ -77,17 +68,15 @@ fn put_program(buf: &mut [u8], sheet: &[u8]) -> usize
     output::print(sheet, buf).len
 }
 
-fn main() {
+fn main(rt: HostRuntime) {
     let mut sheet = [0u8; SHEET];
-    let read = read_sheet(&mut sheet);
-    if read.failed {
-        io::write_all(STDERR_FILENO, b"prune: cannot read standard input\n");
+    let Ok(len) = read_sheet(&mut rt.stdin(), &mut sheet) else {
+        let _ = rt.eprintln("prune: cannot read standard input");
         return;
-    }
-    let len = read.len;
+    };
     let mut text = [0u8; TEXT];
     let len = put_program(&mut text, &sheet[..len]);
-    if !io::write_all(STDOUT_FILENO, &text[..len]) {
-        io::write_all(STDERR_FILENO, b"prune: cannot write standard output\n");
+    if rt.write_all(&text[..len]).is_err() {
+        let _ = rt.eprintln("prune: cannot write standard output");
     }
 }
