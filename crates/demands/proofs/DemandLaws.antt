@@ -21,13 +21,12 @@ use Rattle.circuit.specs.Round.{RoundOf, All}
 use Rattle.roads.specs.Cut.{DrivesAll}
 use Rattle.filter.specs.Leads.{Leads}
 use Rattle.filter.proofs.CallLaws.{stay, leads_for, leads_on, open_none, hand_call_leads, run_call_leads}
-use Rattle.filter.proofs.HandLaws.{hand_refused}
 use Rattle.filter.proofs.RunLaws.{budgets, run_bad}
 use Rattle.cut.specs.Call.{cut_call}
 use Rattle.cut.proofs.CallLaws.{cut_refused, cut_leads, cut_keeps, cut_removed}
 use Rattle.demands.specs.Sequence.{Call, calling, running, cutting, asking, handed, after_all, DrivesGiven, DrivesAllGiven, OfAllRounds, is_cut, NoCuts, fed_back, no_roads}
 use Rattle.demands.specs.Demands.{Demand1, Demand2, Kept, Demand3, SentBack}
-use Rattle.demands.proofs.RefusalLaws.{opening_refused, run_refused, list_refused, report_refused, write_refused}
+use Rattle.demands.proofs.RefusalLaws.{opening_refused, hand_refused, run_refused, list_refused, report_refused, write_refused}
 use Rattle.filter.proofs.RemovalLaws.{hand_removed, run_removed}
 use Rattle.demands.proofs.CountLaws.{steps_most, open_spent}
 

@@ -19,7 +19,9 @@ use Rattle.sheet.specs.Open.{Got, got, fault, read_page, refused, opened, open_c
 use Rattle.sheet.specs.Write.{sheet_of, write_call, write_bytes}
 use Rattle.report.specs.Lines.{text, report_call, report_bytes}
 use Rattle.filter.specs.declared.cycle.Ran.{Ran}
-use Rattle.filter.specs.Calls.{idle, run_call}
+use Rattle.filter.specs.declared.rule.Rule.{Rule}
+use Rattle.filter.specs.Calls.{unchanged, hand_call, idle, run_call}
+use Rattle.filter.proofs.HandLaws as hand
 use Rattle.filter.proofs.AfterLaws.{run_call_cases}
 use Rattle.filter.proofs.RunLaws.{run_taken}
 use Rattle.demands.specs.Demands.{Refusal}
@@ -36,7 +38,10 @@ unfolding open_call
 opening_refused s limit =
     cond_elim (λ (o : Opened). Refusal o.answer → o.work ≡ blank) (outside 1 64 limit) (refused BadLimit 0) (opened (length s) limit (read_page s)) (λ _ h. refl) (λ _. read_refused (length s) limit (read_page s))
 
--- ---- the run
+-- ---- the calls by hand and the run
+
+pub hand_refused : (w : Work) (r : Rule) → Refusal (hand_call w r).answer → hand_call w r ≡ unchanged (hand_call w r).answer w
+hand_refused w r = hand.hand_refused w r
 
 pub run_refused : (w : Work) (budget : ℕ) → Refusal (run_call w budget).answer → run_call w budget ≡ idle (run_call w budget).answer w
 run_refused w budget =
