@@ -1,7 +1,7 @@
 /*
  * loungeegret: a filter for the circuit constraint, for C and for languages that call C.
  *
- * `rt staticlib loungeegret` writes the archive target/staticlib/libloungeegret.a, for x86-64 Linux. It needs the C library only.
+ * `./build loungeegret` writes the archive target/staticlib/libloungeegret.a, for x86-64 Linux. It needs the C library only.
  *
  * The caller lends what a call reads and writes, and no call keeps a pointer. A pointer is never null, also where its length is
  * 0, and what it points to is initialised, also where the call only writes it. What a call may write overlaps nothing else that
@@ -62,9 +62,9 @@ enum loungeegret_end {
 };
 
 /*
- * The length of the longest sheet (proved: sheet-most), of the longest sheet that is written (written-most), of the longest station
- * lines, those of all legs of 64 stations (longest-text), and a length that suffices for everything that the program prints
- * (program-most).
+ * The length of the longest sheet (proved: sheet_most_lem), of the longest sheet that is written (written_most_lem), of the longest
+ * station lines, those of all legs of 64 stations (longest_text), and a length that suffices for everything that the program prints
+ * (program_most_lem).
  */
 enum {
     LOUNGEEGRET_SHEET_MOST = 1153,
@@ -75,7 +75,7 @@ enum {
 
 /*
  * The budget that always suffices, which is the program's: after a run with it, or with more, that is taken, the end is
- * LOUNGEEGRET_STABLE or LOUNGEEGRET_NONE, whatever place and mark the state had (proved: run-ended).
+ * LOUNGEEGRET_STABLE or LOUNGEEGRET_NONE, whatever place and mark the state had (proved: run_ended).
  */
 enum {
     LOUNGEEGRET_FULL_BUDGET = 300000
@@ -128,10 +128,10 @@ enum {
  *
  * What to do next: where the dispatcher agrees, make the step on the same words. It answers the same number, removes exactly the legs
  * that were shown, `*removed` is how many they are, and the end is the one that was shown; the same preview before it shows the same
- * as often as it is asked for (proved: previews, preview-words). After a taken opening and any calls on the same words, no leg is
- * shown that a round of the opened table drives, and LOUNGEEGRET_NONE only where there is no round (preview-after); after cut steps
+ * as often as it is asked for (proved: previews, preview_words). After a taken opening and any calls on the same words, no leg is
+ * shown that a round of the opened table drives, and LOUNGEEGRET_NONE only where there is no round (preview_after); after cut steps
  * with must-drive roads of the caller's own, this is said of the rounds that drive those. Where the end is LOUNGEEGRET_STABLE, no leg
- * is shown and the end stays (stable-after).
+ * is shown and the end stays (stable_after).
  */
 uint32_t loungeegret_preview_sweep(const uint64_t *state, size_t state_length,
                                    uint64_t *legs, size_t legs_length, uint64_t *end);
@@ -147,11 +147,11 @@ uint32_t loungeegret_preview_pass(const uint64_t *state, size_t state_length, si
  *
  * Which budget: LOUNGEEGRET_FULL_BUDGET always suffices. No run from an opened sheet with n stations and L legs takes more than
  * (n + 2) * (L + 1) steps, 266178 at most, and none from any other state with L legs more than (n + 2) * (L + 2) (proved:
- * run-ceiling, run-anywhere).
+ * run_ceiling, run_anywhere).
  *
  * Short turns: with a smaller budget, where the end is still LOUNGEEGRET_OPEN the budget is used up, and the same call again goes on
  * from there. Turns leave the words that one run with the sum of their budgets leaves, what they write to `*steps` and `*removed`
- * adds up to what it writes, and each answers the number that it answers; a run with budget 0 changes no word (proved: turns-add).
+ * adds up to what it writes, and each answers the number that it answers; a run with budget 0 changes no word (proved: turns_add).
  * List checks, previews, searches, reports and written sheets may come between turns, a sweep, a chain step, a pass or a cut step by
  * hand may not. Longer turns are cheaper: what a run learns of passes that change nothing is forgotten where a turn ends.
  *
@@ -159,11 +159,11 @@ uint32_t loungeegret_preview_pass(const uint64_t *state, size_t state_length, si
  * step or pass strikes anything more, with any seed. Each answers LOUNGEEGRET_TAKEN, or LOUNGEEGRET_STRAY_SEED where the seed is
  * stray, removes 0 legs and changes no word; a run takes no step. Where place, mark and end are put back to 0, 0 and
  * LOUNGEEGRET_OPEN, a run with a budget of n + 2 or more takes n + 2 steps, removes nothing and leaves the words as they were (proved:
- * stable-words). So does a run from the sheet of what is left, opened with the same limit (stable-after). Cut steps may have been
+ * stable_words). So does a run from the sheet of what is left, opened with the same limit (stable_after). Cut steps may have been
  * among the calls; one that follows may still strike legs.
  *
  * Stable does not promise a round, and legs that no round drives may be left: the Petersen graph, 10 stations and 30 legs, ends
- * stable after 12 steps with nothing removed, and has no round (no-promise). Whether there is one, loungeegret_first_round tells. Of
+ * stable after 12 steps with nothing removed, and has no round (no_promise). Whether there is one, loungeegret_first_round tells. Of
  * words that say a stable end but came from no opening, nothing of this is said.
  */
 uint32_t loungeegret_run(uint64_t *state, size_t state_length, uint32_t budget,
@@ -191,10 +191,10 @@ uint32_t loungeegret_run(uint64_t *state, size_t state_length, uint32_t budget,
  * (12): then there are no cut steps left to make.
  *
  * Every round that drives all the given must-drive roads survives and drives all the new ones, and the end becomes none only where
- * there is no such round (proved: cut-keeps). After a taken opening and any calls on the same words, no leg is lost that is driven by
+ * there is no such round (proved: cut_keeps). After a taken opening and any calls on the same words, no leg is lost that is driven by
  * a round which drives all must-drive roads given to the cut steps that were not refused (demand3). So start with an empty table to
  * count all rounds, and hand it back as it comes: then none means that there is no round, and the round that loungeegret_first_round
- * finds is the first of the opened table (fed-back, first-words). With roads of your own, which the round has to use, rounds without
+ * finds is the first of the opened table (fed_back_lem, first_words). With roads of your own, which the round has to use, rounds without
  * them no longer count, and their legs may go.
  */
 uint32_t loungeegret_cut(uint64_t *state, size_t state_length, uint64_t *must, size_t must_length,
@@ -232,11 +232,11 @@ enum {
  * LOUNGEEGRET_FOUND: the list is that of the first round, and passes the list check. LOUNGEEGRET_NO_ROUND: the table has none.
  * LOUNGEEGRET_USED_UP: `budget` nodes were entered and another is due; with budget 0 it always is. The same call with a larger
  * budget starts from the beginning, and never changes a found list, a no-round or their number of nodes (proved: finds,
- * node-budgets). A call is refused for a bad state or, after that, where the list has not n bytes; then `*outcome` is
+ * node_budgets). A call is refused for a bad state or, after that, where the list has not n bytes; then `*outcome` is
  * LOUNGEEGRET_REFUSED and `*nodes` 0.
  *
  * After a taken opening and any calls on the same words, whatever they struck and however a run ended, the round that is found is
- * the first of the opened table, and no round is said only where the opened table has none (proved: first-words). So the list is
+ * the first of the opened table, and no round is said only where the opened table has none (proved: first_words). So the list is
  * the same before a run and after it; of the number of nodes that is not said. After cut steps with must-drive roads of the
  * caller's own, it is a round of the opened table that none which drives those comes before, and no round is said only where there
  * is none which drives those.
@@ -270,7 +270,7 @@ uint32_t loungeegret_write(const uint64_t *state, size_t state_length,
 /*
  * The whole program in one call: opens the sheet with limit 64, runs with LOUNGEEGRET_FULL_BUDGET, and writes what the program
  * prints to the start of the buffer: two lines and, unless the end is none, the station lines; or the line `refused 3 at 1`. The
- * text never says that the end is open (never-open). Bytes after the text keep their contents. `*length` is its length. Answers LOUNGEEGRET_TAKEN also for a refused sheet, whose text says so, and
+ * text never says that the end is open (never_open). Bytes after the text keep their contents. `*length` is its length. Answers LOUNGEEGRET_TAKEN also for a refused sheet, whose text says so, and
  * LOUNGEEGRET_NO_ROOM, with length 0 and nothing written to the buffer, where the buffer is shorter than the text.
  */
 uint32_t loungeegret_print(const uint8_t *sheet, size_t sheet_length,

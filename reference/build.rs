@@ -4,7 +4,7 @@ use std::env;
 use std::path::Path;
 use std::process;
 
-/// `rt staticlib NAME` writes libNAME.a.
+/// `./build NAME` writes libNAME.a.
 const NAMES: [&str; 2] = ["loungeegret", "measured"];
 const FOLDER_VARIABLE: &str = "LOUNGEEGRET_LIB";
 const USUAL_FOLDER: &str = "../target/staticlib";
@@ -28,7 +28,7 @@ fn link(folder: &Path, name: &str) {
     println!("cargo:rerun-if-changed={}", archive.display());
     if !archive.is_file() {
         eprintln!("{} is missing.", archive.display());
-        eprintln!("Run `rt staticlib {name}` in the root of the repository,");
+        eprintln!("Run `./build {name}` in the root of the repository,");
         eprintln!("or set {FOLDER_VARIABLE} to the folder that holds the archives.");
         process::exit(1);
     }

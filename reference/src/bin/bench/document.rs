@@ -21,12 +21,12 @@ All numbers come from one call of the last line, on MACHINE; those of the last t
 git worktree add --detach ../base 6b2b745
 (cd ../base && rt staticlib loungeegret && rt staticlib measured)
 RUSTFLAGS='-C link-arg=-Wl,--defsym=loungeegret_first_round=0,--defsym=loungeegret_cut=0' LOUNGEEGRET_LIB=$PWD/../base/target/staticlib cargo run --release --offline --features library --bin bench --manifest-path reference/Cargo.toml -- --times target/base.times
-rt staticlib loungeegret
-rt staticlib measured
+./build loungeegret
+./build measured
 cargo run --release --offline --features library --bin bench --manifest-path reference/Cargo.toml -- --base target/base.times > docs/BENCHMARKS.md
 ```
 
-The first three lines write the times of commit 6b2b745, *the base*: taken by the same program, on the same tables. It has no search for a round and no cut step, which are not timed there, so the linker is told to take their symbols for 0. Without `--base` the last line leaves out what is told against them.
+The first three lines write the times of commit 6b2b745, *the base*: taken by the same program, on the same tables. It was written for the older kit, `rattle-kit-5b-plain`, whose `rt` the second line needs. It has no search for a round and no cut step, which are not timed there, so the linker is told to take their symbols for 0. Without `--base` the last line leaves out what is told against them.
 ";
 
 const NOTES: &str = "\
