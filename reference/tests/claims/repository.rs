@@ -79,7 +79,7 @@ fn read_folder(folder: &Path, prefix: &str, files: &mut Files) {
         if inner.is_file() {
             let bytes = fs::read(&inner).expect("a readable file");
             files.insert(path, String::from_utf8_lossy(&bytes).into_owned());
-        } else if name != "target" && name != ".git" {
+        } else if !["target", "out", ".git"].contains(&name.as_str()) {
             read_folder(&inner, &format!("{path}/"), files);
         }
     }
