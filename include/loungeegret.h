@@ -152,8 +152,8 @@ uint32_t loungeegret_preview_pass(const uint64_t *state, size_t state_length, si
  * Short turns: with a smaller budget, where the end is still LOUNGEEGRET_OPEN the budget is used up, and the same call again goes on
  * from there. Turns leave the words that one run with the sum of their budgets leaves, what they write to `*steps` and `*removed`
  * adds up to what it writes, and each answers the number that it answers; a run with budget 0 changes no word (proved: turns_add).
- * List checks, previews, searches, reports and written sheets may come between turns, a sweep, a chain step, a pass or a cut step by
- * hand may not. Longer turns are cheaper: what a run learns of passes that change nothing is forgotten where a turn ends.
+ * List checks, searches, reports and written sheets may come between turns, a sweep, a chain step, a pass or a cut step by hand may
+ * not. Longer turns are cheaper: what a run learns of passes that change nothing is forgotten where a turn ends.
  *
  * What stable means: after a taken opening and any calls on the same words, where the end is LOUNGEEGRET_STABLE, no sweep, chain
  * step or pass strikes anything more, with any seed. Each answers LOUNGEEGRET_TAKEN, or LOUNGEEGRET_STRAY_SEED where the seed is

@@ -1,8 +1,7 @@
 /*
  * Prunes a sheet, the one in the file that is named or else the sheet of nine legs, by cut steps, where the network is two-way, and
- * a run. Prints first what a sweep would strike, then how the run ended and, unless that is none, the station lines and the first
- * round; where a second file is named, the sheet of what is left goes there. The exit status is that of ./prune: 0 pruned,
- * 1 refused, 2 something failed, 3 the end none.
+ * a run. Prints how the run ended and, unless that is none, the station lines and the first round; where a second file is named,
+ * the sheet of what is left goes there. The exit status is that of ./prune: 0 pruned, 1 refused, 2 something failed, 3 the end none.
  */
 #include <stdio.h>
 #include <string.h>
@@ -57,22 +56,6 @@ static int send_back(const uint64_t *state, const char *name)
     size_t stored = file ? fwrite(sheet, 1, length, file) : 0;
     if (!file || fclose(file) || stored != length)
         return fail("cannot write the struck sheet");
-    return 0;
-}
-
-/* Prints the legs that a sweep would strike, and the end that would follow. Nothing is struck yet. */
-static int print_preview(const uint64_t *state)
-{
-    uint64_t legs[LOUNGEEGRET_ROWS] = {0}, end = LOUNGEEGRET_OPEN;
-
-    if (loungeegret_preview_sweep(state, LOUNGEEGRET_STATE_WORDS, legs, LOUNGEEGRET_ROWS, &end) != LOUNGEEGRET_TAKEN)
-        return fail("the preview is refused");
-    printf("sweep shown first:");
-    for (unsigned i = 0; i < LOUNGEEGRET_ROWS; i++)
-        for (unsigned k = 0; k < 64; k++)
-            if (legs[i] >> k & 1)
-                printf(" %u-%u", i + 1, k + 1);
-    printf(" end %s\n", words[end]);
     return 0;
 }
 
@@ -131,9 +114,6 @@ static int prune(const uint8_t *sheet, size_t sheet_length, const char *struck)
         printf("refused %u at %zu\n", (unsigned)number, place);
         return 1;
     }
-    /* Where somebody has to agree first; loungeegret_sweep on the same words would then do just this. */
-    if (print_preview(state) != 0)
-        return 2;
     /* Before the run, which may leave some roads one way only. */
     if (cut(state) != 0)
         return 2;

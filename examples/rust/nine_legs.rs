@@ -1,7 +1,6 @@
 //! Prunes a sheet, the one in the file that is named or else the sheet of nine legs, by cut steps, where the network is two-way, and
-//! a run. Prints first what a sweep would strike, then how the run ended and, unless that is none, the station lines and the first
-//! round; where a second file is named, the sheet of what is left goes there. The exit status is that of ./prune: 0 pruned,
-//! 1 refused, 2 something failed, 3 the end none.
+//! a run. Prints how the run ended and, unless that is none, the station lines and the first round; where a second file is named,
+//! the sheet of what is left goes there. The exit status is that of ./prune: 0 pruned, 1 refused, 2 something failed, 3 the end none.
 use std::ffi::OsString;
 use std::fs::{self, File};
 use std::io::{self, Read, Write};
@@ -17,13 +16,6 @@ unsafe extern "C" {
         state: *mut u64,
         state_length: usize,
         place: &mut usize,
-    ) -> u32;
-    fn loungeegret_preview_sweep(
-        state: *const u64,
-        state_length: usize,
-        legs: *mut u64,
-        legs_length: usize,
-        end: &mut u64,
     ) -> u32;
     fn loungeegret_run(
         state: *mut u64,
@@ -129,8 +121,6 @@ fn prune(sheet: &[u8], out: &mut impl Write, struck: Option<OsString>) -> io::Re
         writeln!(out, "refused {number} at {place}")?;
         return Ok(1);
     }
-    // Where somebody has to agree first; loungeegret_sweep on the same words would then do just this.
-    writeln!(out, "{}", preview_line(&state)?)?;
     // Before the run, which may leave some roads one way only.
     cut(&mut state)?;
     // Sweeps, chain steps and passes; each can also be called by hand. This budget always suffices: the end is stable or none.
@@ -162,26 +152,6 @@ fn prune(sheet: &[u8], out: &mut impl Write, struck: Option<OsString>) -> io::Re
         fs::write(name, struck_sheet(&state)?)?;
     }
     Ok(0)
-}
-
-/// The legs that a sweep would strike, and the end that would follow. Nothing is struck yet.
-fn preview_line(state: &[u64]) -> io::Result<String> {
-    let (mut legs, mut end) = ([0; ROWS], 0);
-    // SAFETY: as above.
-    let number = unsafe {
-        let (words, rows) = (state.as_ptr(), legs.as_mut_ptr());
-        loungeegret_preview_sweep(words, state.len(), rows, legs.len(), &mut end)
-    };
-    if number != TAKEN {
-        return Err(io::Error::other("the preview is refused"));
-    }
-    let mut line = String::from("sweep shown first:");
-    for (i, row) in legs.iter().enumerate() {
-        for k in (0..64).filter(|k| row >> k & 1 == 1) {
-            line += &format!(" {}-{}", i + 1, k + 1);
-        }
-    }
-    Ok(line + " end " + WORDS[end as usize])
 }
 
 /// Cut steps until nothing changes. Each is given the must-drive roads that the one before handed back, and the first none: so all
