@@ -39,7 +39,7 @@ use std::io::Read;
 use step::{Step, stop};
 
 // The longest script; what is past it is not read.
-const SCRIPT: u64 = 524288;
+const SCRIPT: usize = 524288;
 
 // The longest report buffer.
 const REPORT: usize = 16384;
@@ -215,6 +215,6 @@ fn play(rt: &impl Print, script: &[u8]) -> io::Result<()> {
 
 fn main(rt: HostRuntime) -> io::Result<()> {
     let mut script = Vec::new(rt.alloc());
-    rt.stdin().take(SCRIPT).read_to_end(&mut script)?;
+    rt.stdin().take(SCRIPT as u64).read_to_end(&mut script)?;
     play(&rt, &script)
 }

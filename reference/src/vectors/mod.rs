@@ -44,7 +44,6 @@ pub fn script() -> Script {
     stable::add(&mut script);
     finder::add(&mut script);
     cuts::add(&mut script);
-    previews::add(&mut script);
     script
 }
 
