@@ -4,7 +4,6 @@ use Prim.Native.Nat.{ℕ, ◌-◌, ◌≤◌}
 use native.Mathlib.Omega.{arith}
 use lib.Count.{ones, ones-le}
 use Rattle.bitset.specs.Upto.{row}
-use Rattle.bitset.proofs.BoolLaws.{clash}
 use Rattle.bitset.proofs.SetLaws.{members_below}
 use Rattle.idle.proofs.FallingLaws.{falling_start, falling_room, falling_spans, falling_turn, falling_end, rows_within, cols_within, strong_all, level_told, grouping_all}
 use Rattle.idle.proofs.RisingLaws.{part_or_r}
@@ -16,18 +15,9 @@ use Rattle.idle.proofs.idle.is_idle.Goals as goal
 levels_of : (c : Start) → let a = c.args in Levelled a.n a.rows.now a.seed a.level.now a.count
 levels_of c = let a = c.args in levelled a.n a.rows.now a.seed a.level.now a.count c.requires.0 (omega (arith, c.requires.5, c.requires.6)) c.requires.3 c.requires.4
 
-pub returns-then-count-lt2 : goal.returns-then-count-lt2
-returns-then-count-lt2 c = λ e. clash (sym e)
-
-pub returns-then-count-gt33 : goal.returns-then-count-gt33
-returns-then-count-gt33 c = λ e. clash (sym e)
-
 pub rise-requires : goal.rise-requires
 rise-requires c =
     (c.requires.2.most, omega (arith, c.requires.0, c.requires.2.most), omega arith, omega arith, (levels_of (goal.at.rise-requires c).Start).first, refl, refl)
-
-pub returns-then-not-rise : goal.returns-then-not-rise
-returns-then-not-rise c = λ e. clash (sym e)
 
 pub loop-k-init : goal.loop-k-init
 loop-k-init c = falling_start refl refl refl (c.args.count - 1) (omega arith) (omega arith)
@@ -37,9 +27,6 @@ regroup-found-requires c =
     let l = c.loop-k in
     let pre = c.requires in
     (l.invariant.grouping.few, l.invariant.wide_groups, rows_within pre.1 pre.2, cols_within pre.1 pre.2, part_or_r l.room _, falling_room l.invariant)
-
-pub returns-then-found-ne0 : goal.returns-then-found-ne0
-returns-then-found-ne0 c = λ e. clash (sym e)
 
 pub overflow_cast-s : goal.overflow_cast-s
 overflow_cast-s c =
@@ -55,9 +42,6 @@ leaves_level-requires c =
     let l = c.loop-k in
     let (w, S, P) = c.rise.ensures.2 (l.k - 1) (omega arith) (omega (arith, l.invariant.low)) in
     (c.regroup-found.ensures.1.few, l.invariant.wide_out, l.invariant.wide_into, (λ x e. (P.tail x e).0), λ x e. (P.head x e).0)
-
-pub returns-then-not-leaves_level : goal.returns-then-not-leaves_level
-returns-then-not-leaves_level c = λ e. clash (sym e)
 
 pub loop-k-preserved-else-not-leaves_level : goal.loop-k-preserved-else-not-leaves_level
 loop-k-preserved-else-not-leaves_level c =

@@ -1,3 +1,4 @@
+use borrow.Author.Rules.{rules}
 use mathlib.Core.Path.{refl, sym, ap, ◌∙◌, subst}
 use Prim.Native.Nat.{ℕ, ◌-◌, ◌^◌, ◌<◌}
 use native.Mathlib.Omega.{arith}
@@ -60,13 +61,12 @@ loop-last-preserved c =
 pub returns : goal.returns
 returns c =
     let l = c.loop-last in
-    let all = c.full.result in
     let z = c.loop-last-test.false in
     λ t d.
     let f = l.invariant.3 t d in
     record {
       listed = finding_end c.args.n t c.args.seed c.requires.1 f z (omega (arith, ones-le 64 l.seen l.invariant.1, l.invariant.2));
       unreached =
-          full_without c.requires.0 l.seen all _ c.full.ensures (diff_set_of 64 all l.seen c.full.type_inv l.invariant.1)
+          full_without c.requires.0 l.seen _ _ (search rules) (diff_set_of 64 _ l.seen (search rules) l.invariant.1)
           ∙ finding_missed c.args.n t c.args.seed c.requires.1 f z;
     }
