@@ -88,7 +88,8 @@ pub(crate) fn pass_on(
     let mut nbr = [0u64; 64];
     separator::neighbours(rows, cols, n, &mut nbr);
     let found = separator::levels_from(&nbr, n, seed);
-    if found.unreached != 0 {
+    let apart = found.unreached != 0;
+    if apart {
         return Taken {
             none: true,
             struck: false,

@@ -97,7 +97,8 @@ pub(crate) fn read_record(part: &[u8], n: usize) -> Read
         return Read::Fault(Answer::CutSheet, part.len());
     }
     let map = part[0] as u64;
-    if 8 <= map {
+    let unknown = 8 <= map;
+    if unknown {
         return Read::Fault(Answer::UnknownBit, 0);
     }
     let next = match read_set(part, 1, n, bitset::contains(map, 0)) {
