@@ -277,20 +277,26 @@ fn buffers_that_are_too_long_stop() {
     }
 }
 
+/// The script, and the section of previews that is stored beside it.
+fn stored() -> [Script; 2] {
+    [vectors::script(), vectors::previews()]
+}
+
 #[test]
 fn vectors_are_answered_alike() {
-    let script = vectors::script();
-    let plain = answers(&Plain, script.bytes());
-    assert!(plain == answers(&Fast, script.bytes()));
-    assert!(plain == answers(&Telling, script.bytes()));
-    assert!(!plain.ends_with(b"stop\n"));
+    for script in stored() {
+        let plain = answers(&Plain, script.bytes());
+        assert!(plain == answers(&Fast, script.bytes()));
+        assert!(plain == answers(&Telling, script.bytes()));
+        assert!(!plain.ends_with(b"stop\n"));
+    }
 }
 
 /// Each call gives each of its numbers somewhere in the vectors.
 #[test]
 fn vectors_draw_every_number() {
-    let script = vectors::script();
-    let text = String::from_utf8(answers(&Fast, script.bytes())).expect("text");
+    let text = stored().map(|script| answers(&Fast, script.bytes()));
+    let text = String::from_utf8(text.concat()).expect("text");
     let numbers: [(&str, &[u8]); 11] = [
         ("open", &[0, 1, 2, 3, 4, 5, 6]),
         ("sweep", &[0, 7]),

@@ -56,7 +56,11 @@ fn the_stored_answers_are_the_plain_ones() {
 fn the_stored_previews_are_those_made() {
     let script = vectors::previews();
     assert_stored(REFERENCE, "previews.stdin", script.bytes());
-    assert_stored(REFERENCE, "previews.stdout", &answers(&Plain, script.bytes()));
+    assert_stored(
+        REFERENCE,
+        "previews.stdout",
+        &answers(&Plain, script.bytes()),
+    );
 }
 
 /// The program reads no further than its constant says.
