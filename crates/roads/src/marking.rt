@@ -49,7 +49,8 @@ pub(crate) fn judge(
     if 3 < k {
         return false;
     }
-    if k < 2 {
+    let few = k < 2;
+    if few {
         return true;
     }
     if k == 2 {

@@ -16,9 +16,9 @@ pub returns-then-k-gt3 : goal.returns-then-k-gt3
 returns-then-k-gt3 c =
     judge_many c.requires.0 _ _ c.roads_across-k.ensures c.requires.3 c.requires.4 c.if-k-gt3.true
 
-pub returns-then-k-lt2 : goal.returns-then-k-lt2
-returns-then-k-lt2 c =
-    judge_low c.requires.0 _ _ c.roads_across-k.ensures c.requires.3 c.requires.4 (omega arith) (omega (arith, c.if-k-lt2.true))
+pub returns-then-few : goal.returns-then-few
+returns-then-few c =
+    judge_low c.requires.0 _ _ c.roads_across-k.ensures c.requires.3 c.requires.4 (omega arith) (omega (arith, c.if-few.true))
 
 pub returns-then-k-eq2 : goal.returns-then-k-eq2
 returns-then-k-eq2 c =
@@ -30,7 +30,7 @@ must_roads c = let a = c.args in
     capped_size a.n a.must.now a.x c.crossing-m.result c.requires.0.most c.requires.0.must_table.square c.requires.2 c.crossing-m.ensures
 
 three : (c : After-crossing-m) → c.roads_across-k.result ≡ 3
-three c = omega (arith, c.if-k-eq2.false, c.if-k-lt2.false, c.if-k-gt3.false)
+three c = omega (arith, c.if-k-eq2.false, c.if-few.false, c.if-k-gt3.false)
 
 pub returns-then-m-eq3 : goal.returns-then-m-eq3
 returns-then-m-eq3 c =
