@@ -1,5 +1,5 @@
 -- Previews after a list of calls (W-207): a dispatcher may agree to each.
-use Rattle.std.specs.Prelude.{◌≡◌, Bool, true, false, cond, ◌&&◌, List, [], ◌∷◌, ℕ, eqb}
+use Rattle.std.specs.Prelude.{◌≡◌, Bool, false, cond, ◌&&◌, List, [], ◌∷◌, ℕ, eqb}
 use Prim.Native.String.{String}
 use Rattle.bitset.specs.Sets.{all}
 use Rattle.bitset.specs.Upto.{row}
