@@ -192,7 +192,8 @@ pub fn is_idle(
         let above = level[k];
         room |= above;
         let found = regroup(rows, cols, nbr, room, above, edge, q, &mut groups);
-        if found.left != 0 {
+        let missed = found.left != 0;
+        if missed {
             return false;
         }
         q = found.count;

@@ -49,7 +49,7 @@ loop-k-preserved-else-not-leaves_level c =
     let rise = c.rise.ensures in
     let found = c.regroup-found.ensures in
     let told = c.leaves_level.ensures in
-    let G = grouping_all found.1 c.if-found-ne0.false in
+    let G = grouping_all found.1 c.if-missed.false in
     let (w, S, all) = rise.3 c.if-not-rise.false in
     falling_turn l.invariant (l.k - 1) (omega (arith, l.invariant.some)) (omega arith) found.0 told.0 told.1 G
     (λ few. let settled = told.5 c.if-not-leaves_level.false in
@@ -60,7 +60,7 @@ pub loop-k-preserved : goal.loop-k-preserved
 loop-k-preserved c =
     let l = c.loop-k in
     let found = c.regroup-found.ensures in
-    let G = grouping_all found.1 c.if-found-ne0.false in
+    let G = grouping_all found.1 c.if-missed.false in
     falling_turn l.invariant (l.k - 1) (omega (arith, l.invariant.some)) (omega arith) found.0 l.invariant.wide_out l.invariant.wide_into G (λ few. absurd (let z : ⊥ = omega (arith, few) in z))
 
 pub returns : goal.returns
