@@ -37,7 +37,8 @@ pub fn check_list_in(rows: &[u64; 64], n: usize, limit: usize, place: usize, lis
             yes: false,
         };
     }
-    if list.len() != n {
+    let other = list.len() != n;
+    if other {
         return Checked {
             answer: Answer::WrongLength,
             yes: false,

@@ -23,7 +23,8 @@ pub fn descend(
     requires { Begun (node_at n limit rows.old) × Known known (node_at n limit rows.old) × (undecided ≤ n) × (length list.old ≡ n) }
     ensures { given result list.new ≡ within budget (search_from undecided (node_at n limit rows.old)) list.old }
 {
-    if budget == 0 {
+    let spent = budget == 0;
+    if spent {
         return Part {
             outcome: Outcome::UsedUp,
             left: 0,

@@ -150,7 +150,8 @@ fn store_changed(state: &mut [u64], rows: &[u64; 64], removed: u32)
     requires { (state_words ≤ length state.old) × (length rows.now ≡ 64) × (removed ≡ 0 → rows.now ≡ take 64 state.old) }
     ensures { state.new ≡ rows.now ++ drop 64 state.old }
 {
-    if removed != 0 {
+    let struck = removed != 0;
+    if struck {
         store_rows(state, rows);
     }
 }
@@ -161,7 +162,8 @@ fn hand_back(state: &mut [u64], rows: &[u64; 64], answer: Answer, at: Cursor, re
     ensures { (result ≡ number answer) × (state.new ≡ words_after state.old answer (moved_in state.old rows.now at)) }
 {
     let number = answer.number();
-    if number == 0 {
+    let taken = number == 0;
+    if taken {
         store_changed(state, rows, removed);
         store_cursor(state, at);
     }

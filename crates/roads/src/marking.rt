@@ -62,7 +62,8 @@ pub(crate) fn judge(
     if m == 3 {
         return true;
     }
-    if m == 2 {
+    let both = m == 2;
+    if both {
         mark(drop, rows, must, n, x);
         return false;
     }

@@ -25,7 +25,8 @@ fn fields_of(n: usize, legs: u64) -> Fields
     if count == n - 1 {
         return Fields::Free;
     }
-    if count == 1 {
+    let single = count == 1;
+    if single {
         return Fields::Fixed(u64::trailing_zeros(legs) as u8 + 1);
     }
     Fields::Next(legs)

@@ -5,15 +5,15 @@ use Rattle.loungeegret.specs.Results.{words_after}
 use Rattle.loungeegret.proofs.WordsLaws.{stores_parts}
 use Rattle.loungeegret.proofs.hand_back.Goals as goal
 
-pub returns-then-number-eq0 : goal.returns-then-number-eq0
+pub returns-then-taken : goal.returns-then-taken
 unfolding words_after
-returns-then-number-eq0 c =
+returns-then-taken c =
     let e = c.number-number.ensures in
     let a = c.args in
-    (e, rw (sym e, c.if-number-eq0.true, c.store_cursor.ensures, c.store_changed.ensures) (stores_parts a.state.now a.rows.now a.at c.requires.0 c.requires.1))
+    (e, rw (sym e, c.if-taken.true, c.store_cursor.ensures, c.store_changed.ensures) (stores_parts a.state.now a.rows.now a.at c.requires.0 c.requires.1))
 
-pub returns-else-number-eq0 : goal.returns-else-number-eq0
+pub returns-else-taken : goal.returns-else-taken
 unfolding words_after
-returns-else-number-eq0 c =
+returns-else-taken c =
     let e = c.number-number.ensures in
-    (e, rw (sym e, ne_eqb _ _ c.if-number-eq0.false))
+    (e, rw (sym e, ne_eqb _ _ c.if-taken.false))

@@ -6,7 +6,7 @@ use native.Mathlib.Omega.{arith}
 use lib.ListN.{drop, take-append-drop}
 use Rattle.loungeegret.proofs.store_changed.Goals as goal
 
-pub returns-else-removed-ne0 : goal.returns-else-removed-ne0
-returns-else-removed-ne0 c =
+pub returns-else-struck : goal.returns-else-struck
+returns-else-struck c =
     let l : List ℕ = c.args.state.now in
-    sym (ap (λ (r : List ℕ). r ++ drop 64 l) (c.requires.2 (omega (arith, c.if-removed-ne0.false))) ∙ take-append-drop 64 l)
+    sym (ap (λ (r : List ℕ). r ++ drop 64 l) (c.requires.2 (omega (arith, c.if-struck.false))) ∙ take-append-drop 64 l)

@@ -10,7 +10,7 @@ use Rattle.circuit.specs.inner.Tables.{Square}
 use Rattle.circuit.proofs.StateLaws.{good, stray_row_lem}
 use Rattle.circuit.proofs.FillLaws.{bad_work, good_work, no_room, taken}
 use Rattle.sheet.specs.Write.{sheet_of}
-use Rattle.sheet.proofs.write.Goals.{Else-buf-sheet_len, Else-is_bad}
+use Rattle.sheet.proofs.write.Goals.{Else-short, Else-is_bad}
 use Rattle.sheet.proofs.write.Goals as goal
 
 -- past the first test the state is good, and past the second there is room
@@ -20,7 +20,7 @@ state_good c = sym c.is_bad.ensures ∙ c.if-is_bad.false
 below : (w : Work) → bad w ≡ false → Square w.n (rows_of w)
 below w e = let g = good w e in stray_row_lem w.n (rows_of w) g.most g.table
 
-room : (c : Else-buf-sheet_len) → length (sheet_of c.args.work) ≤ length c.args.buf.now
+room : (c : Else-short) → length (sheet_of c.args.work) ≤ length c.args.buf.now
 unfolding sheet_of
 room c = omega (arith, c.sheet_len.ensures)
 
@@ -30,18 +30,18 @@ returns-then-is_bad c = bad_work _ _ _ (sym c.is_bad.ensures ∙ c.if-is_bad.tru
 pub sheet_len-requires : goal.sheet_len-requires
 sheet_len-requires c = let e = state_good (goal.at.sheet_len-requires c).Else-is_bad in ((good _ e).most, below _ e)
 
-pub returns-then-buf-sheet_len : goal.returns-then-buf-sheet_len
+pub returns-then-short : goal.returns-then-short
 unfolding sheet_of
-returns-then-buf-sheet_len c =
+returns-then-short c =
     let w : Work = c.args.work in
-    good_work w (sheet_of w) _ (state_good (goal.at.returns-then-buf-sheet_len c).Else-is_bad) (no_room (sheet_of w) _ (omega (arith, c.sheet_len.ensures)))
+    good_work w (sheet_of w) _ (state_good (goal.at.returns-then-short c).Else-is_bad) (no_room (sheet_of w) _ (omega (arith, c.sheet_len.ensures)))
 
 pub put_sheet-len-requires : goal.put_sheet-len-requires
 unfolding sheet_of
-put_sheet-len-requires c = let e = state_good (goal.at.put_sheet-len-requires c).Else-is_bad in ((good _ e).most, below _ e, room (goal.at.put_sheet-len-requires c).Else-buf-sheet_len)
+put_sheet-len-requires c = let e = state_good (goal.at.put_sheet-len-requires c).Else-is_bad in ((good _ e).most, below _ e, room (goal.at.put_sheet-len-requires c).Else-short)
 
 pub returns : goal.returns
 unfolding sheet_of
 returns c =
     let w : Work = c.args.work in
-    good_work w (sheet_of w) _ (state_good (goal.at.returns c).Else-is_bad) (taken (sheet_of w) _ _ _ (room (goal.at.returns c).Else-buf-sheet_len) c.put_sheet-len.ensures)
+    good_work w (sheet_of w) _ (state_good (goal.at.returns c).Else-is_bad) (taken (sheet_of w) _ _ _ (room (goal.at.returns c).Else-short) c.put_sheet-len.ensures)

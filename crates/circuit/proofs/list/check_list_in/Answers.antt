@@ -12,17 +12,17 @@ pub returns-then-is_bad_state : goal.returns-then-is_bad_state
 unfolding check_call
 returns-then-is_bad_state c = λ mark end. rw (sym (c.is_bad_state.ensures mark end) ∙ c.if-is_bad_state.true)
 
-pub returns-then-list-n : goal.returns-then-list-n
+pub returns-then-other : goal.returns-then-other
 unfolding check_call
-returns-then-list-n c = λ mark end. rw (sym (c.is_bad_state.ensures mark end) ∙ c.if-is_bad_state.false, ne_eqb _ _ c.if-list-n.true)
+returns-then-other c = λ mark end. rw (sym (c.is_bad_state.ensures mark end) ∙ c.if-is_bad_state.false, ne_eqb _ _ c.if-other.true)
 
 pub is_list-requires : goal.is_list-requires
 is_list-requires c =
     let g = good _ (sym (c.is_bad_state.ensures false Open) ∙ c.if-is_bad_state.false) in
-    (omega (arith, g.two), g.most, c.if-list-n.false)
+    (omega (arith, g.two), g.most, c.if-other.false)
 
 pub returns : goal.returns
 unfolding check_call
 returns c =
     λ mark end.
-    rw (sym (c.is_bad_state.ensures mark end) ∙ c.if-is_bad_state.false, eq-eqb _ _ c.if-list-n.false, c.is_list.ensures)
+    rw (sym (c.is_bad_state.ensures mark end) ∙ c.if-is_bad_state.false, eq-eqb _ _ c.if-other.false, c.is_list.ensures)

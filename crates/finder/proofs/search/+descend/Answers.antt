@@ -15,10 +15,10 @@ use Rattle.finder.specs.inner.Nodes.{stable_at}
 use Rattle.finder.proofs.StepLaws.{node_off, node_end, node_leaf, node_children, rest_start, rest_end, rest_next, rest_stop, row_word, ready}
 use Rattle.finder.proofs.search.+descend.Goals as goal
 
-pub returns-then-budget-eq0 : goal.returns-then-budget-eq0
-returns-then-budget-eq0 t c =
+pub returns-then-spent : goal.returns-then-spent
+returns-then-spent t c =
     let a = c.args in
-    let e : a.budget ≡ 0 = c.if-budget-eq0.true in
+    let e : a.budget ≡ 0 = c.if-spent.true in
     rw e (node_off a.n a.limit a.undecided a.rows.now a.list.now)
 
 pub settle-requires : goal.settle-requires

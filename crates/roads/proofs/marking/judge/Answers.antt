@@ -36,12 +36,12 @@ pub returns-then-m-eq3 : goal.returns-then-m-eq3
 returns-then-m-eq3 c =
     judge_three c.requires.0 _ _ c.roads_across-k.ensures c.requires.3 c.requires.4 (omega arith) (three (goal.at.returns-then-m-eq3 c).After-crossing-m) ((must_roads (goal.at.returns-then-m-eq3 c).After-crossing-m).few (omega arith) ∙ c.if-m-eq3.true)
 
-pub returns-then-m-eq2 : goal.returns-then-m-eq2
-returns-then-m-eq2 c =
-    judge_drop c.requires.0 _ _ c.roads_across-k.ensures c.requires.3 c.requires.4 (omega arith) _ (three (goal.at.returns-then-m-eq2 c).After-crossing-m) ((must_roads (goal.at.returns-then-m-eq2 c).After-crossing-m).few (omega arith) ∙ c.if-m-eq2.true)
-    c.mark-then-m-eq2.ensures.0 c.mark-then-m-eq2.ensures.1
+pub returns-then-both : goal.returns-then-both
+returns-then-both c =
+    judge_drop c.requires.0 _ _ c.roads_across-k.ensures c.requires.3 c.requires.4 (omega arith) _ (three (goal.at.returns-then-both c).After-crossing-m) ((must_roads (goal.at.returns-then-both c).After-crossing-m).few (omega arith) ∙ c.if-both.true)
+    c.mark-then-both.ensures.0 c.mark-then-both.ensures.1
 
 pub returns : goal.returns
 returns c =
-    judge_quiet c.requires.0 _ _ c.roads_across-k.ensures c.requires.3 c.requires.4 (omega arith) (three (goal.at.returns c).After-crossing-m) (capped_not _ _ 2 (must_roads (goal.at.returns c).After-crossing-m) (omega arith) c.if-m-eq2.false)
+    judge_quiet c.requires.0 _ _ c.roads_across-k.ensures c.requires.3 c.requires.4 (omega arith) (three (goal.at.returns c).After-crossing-m) (capped_not _ _ 2 (must_roads (goal.at.returns c).After-crossing-m) (omega arith) c.if-both.false)
     (capped_not _ _ 3 (must_roads (goal.at.returns c).After-crossing-m) (omega arith) c.if-m-eq3.false)

@@ -16,9 +16,9 @@ overflow_cast-result c = omega (arith, trailing_le 64 c.args.legs)
 pub overflow_add-result : goal.overflow_add-result
 overflow_add-result c = omega (arith, trailing_le 64 c.args.legs)
 
-pub returns-then-count-eq1 : goal.returns-then-count-eq1
-returns-then-count-eq1 c =
-    entry_fixed _ _ c.requires.2 _ c.requires.1 c.if-count-n.false c.if-count-eq1.true (omega arith)
+pub returns-then-single : goal.returns-then-single
+returns-then-single c =
+    entry_fixed _ _ c.requires.2 _ c.requires.1 c.if-count-n.false c.if-single.true (omega arith)
 
 pub returns : goal.returns
-returns c = entry_next _ _ c.requires.2 c.if-count-n.false c.if-count-eq1.false
+returns c = entry_next _ _ c.requires.2 c.if-count-n.false c.if-single.false
