@@ -295,14 +295,13 @@ fn vectors_are_answered_alike() {
 /// Each call gives each of its numbers somewhere in the vectors.
 #[test]
 fn vectors_draw_every_number() {
-    let text = stored().map(|script| answers(&Fast, script.bytes()));
-    let text = String::from_utf8(text.concat()).expect("text");
-    let numbers: [(&str, &[u8]); 11] = [
+    let script = vectors::script();
+    let text = String::from_utf8(answers(&Fast, script.bytes())).expect("text");
+    let numbers: [(&str, &[u8]); 10] = [
         ("open", &[0, 1, 2, 3, 4, 5, 6]),
         ("sweep", &[0, 7]),
         ("chain", &[0, 7]),
         ("pass", &[0, 7, 8]),
-        ("preview", &[0, 7, 8]),
         ("cut", &[0, 7, 11, 12]),
         ("run", &[0, 7]),
         ("list", &[0, 7, 9]),
@@ -315,5 +314,15 @@ fn vectors_draw_every_number() {
             let start = format!("{call} {number} ");
             assert!(text.lines().any(|line| line.starts_with(&start)));
         }
+    }
+}
+
+#[test]
+fn vectors_of_previews_draw_every_number() {
+    let script = vectors::previews();
+    let text = String::from_utf8(answers(&Fast, script.bytes())).expect("text");
+    for number in [0, 7, 8] {
+        let start = format!("preview {number} ");
+        assert!(text.lines().any(|line| line.starts_with(&start)));
     }
 }
