@@ -1,24 +1,27 @@
 // The numbers of the radio card, and the ends.
-ghost use Rattle.std.specs.Prelude.{◌≡◌};
-ghost use Rattle.circuit.specs.Card.{number, end_code, end_of};
+ghost use Rattle.std.specs.Prelude.{◌≡◌, ◌++◌, Some, codes, decimal};
+ghost use Rattle.circuit.specs.Card.{number, word, end_code, end_of, DecodesEnd};
 ghost use Rattle.circuit.specs.State.{is_open, is_none};
 
-// The words of the radio card; `number` of specs/Card gives their numbers.
-#[derive(Clone, Copy)]
+use std::error::Error;
+use std::fmt;
+
+// The words of the radio card, each with its number there.
+#[derive(Clone, Copy, Debug, PartialEq, Eq, Hash)]
 pub enum Answer {
-    Taken,
-    CutSheet,
-    BadCount,
-    UnknownBit,
-    StrayStation,
-    Overhang,
-    BadLimit,
-    BadWork,
-    StraySeed,
-    WrongLength,
-    NoRoom,
-    NotTwoWay,
-    StrayRoad,
+    Taken = 0,
+    CutSheet = 1,
+    BadCount = 2,
+    UnknownBit = 3,
+    StrayStation = 4,
+    Overhang = 5,
+    BadLimit = 6,
+    BadWork = 7,
+    StraySeed = 8,
+    WrongLength = 9,
+    NoRoom = 10,
+    NotTwoWay = 11,
+    StrayRoad = 12,
 }
 
 impl Answer {
@@ -26,49 +29,42 @@ impl Answer {
     pub fn number(self) -> u32
         ensures { result ≡ number self }
     {
-        match self {
-            Answer::Taken => 0,
-            Answer::CutSheet => 1,
-            Answer::BadCount => 2,
-            Answer::UnknownBit => 3,
-            Answer::StrayStation => 4,
-            Answer::Overhang => 5,
-            Answer::BadLimit => 6,
-            Answer::BadWork => 7,
-            Answer::StraySeed => 8,
-            Answer::WrongLength => 9,
-            Answer::NoRoom => 10,
-            Answer::NotTwoWay => 11,
-            Answer::StrayRoad => 12,
-        }
+        self as u32
     }
 }
 
-#[derive(Clone, Copy)]
+// The ends, each with its code in a state that lies outside of the library.
+#[derive(Clone, Copy, Debug, PartialEq, Eq, Hash)]
 pub enum End {
-    Open,
-    Stable,
-    None,
+    Open = 0,
+    Stable = 1,
+    None = 2,
 }
+
+// A code that no end has.
+#[derive(Clone, Copy, Debug, PartialEq, Eq, Hash)]
+pub struct UnknownEnd(pub u64);
 
 impl End {
     pub fn is_open(self) -> bool
         ensures { result ≡ is_open self }
     {
-        match self {
-            End::Open => true,
-            End::Stable => false,
-            End::None => false,
-        }
+        matches!(self, End::Open)
     }
 
     pub fn is_none(self) -> bool
         ensures { result ≡ is_none self }
     {
+        matches!(self, End::None)
+    }
+
+    pub fn word(self) -> &'static str
+        ensures { result.now ≡ codes (word self) }
+    {
         match self {
-            End::Open => false,
-            End::Stable => false,
-            End::None => true,
+            End::Open => "open",
+            End::Stable => "stable",
+            End::None => "none",
         }
     }
 
@@ -76,21 +72,46 @@ impl End {
     pub fn code(self) -> u64
         ensures { result ≡ end_code self }
     {
-        match self {
-            End::Open => 0,
-            End::Stable => 1,
-            End::None => 2,
-        }
+        self as u64
     }
 
-    // The end with this code; none, where no end has it.
+    // The end with this code; `End::None`, where no end has it.
     pub fn of_code(k: u64) -> End
         ensures { result ≡ end_of k }
     {
-        match k {
-            0 => End::Open,
-            1 => End::Stable,
-            _ => End::None,
+        End::try_from(k).unwrap_or(End::None)
+    }
+}
+
+impl TryFrom<u64> for End {
+    type Error = UnknownEnd;
+
+    ghost try_from_gives = { DecodesEnd };
+
+    fn try_from(code: u64) -> Result<End, UnknownEnd> {
+        match code {
+            0 => Ok(End::Open),
+            1 => Ok(End::Stable),
+            2 => Ok(End::None),
+            _ => Err(UnknownEnd(code)),
         }
     }
 }
+
+impl fmt::Display for End {
+    ghost output = { λ end. Some (codes (word end)) };
+
+    fn fmt<W: fmt::Write>(&self, f: &mut fmt::Formatter<W>) -> fmt::Result {
+        f.write_str(self.word())
+    }
+}
+
+impl fmt::Display for UnknownEnd {
+    ghost output = { λ e. Some (codes "no end has the code " ++ decimal e.0) };
+
+    fn fmt<W: fmt::Write>(&self, f: &mut fmt::Formatter<W>) -> fmt::Result {
+        write!(f, "no end has the code {}", self.0)
+    }
+}
+
+impl Error for UnknownEnd {}

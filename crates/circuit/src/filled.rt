@@ -2,7 +2,8 @@
 use crate::card::Answer;
 
 // `len` bytes are filled: 0 where the call is refused.
-#[derive(Clone, Copy)]
+// By hand, no Result: `filled` of specs/Fill gives both fields of a refusal too.
+#[derive(Clone, Copy, Debug, PartialEq, Eq)]
 pub struct Filled {
     pub answer: Answer,
     pub len: usize,

@@ -10,7 +10,8 @@ use crate::card::Answer;
 use crate::state::{Work, is_bad_state};
 
 // What the list check hands back.
-#[derive(Clone, Copy)]
+// By hand, no Result: `check_call` of specs/Check gives both fields of a refusal too.
+#[derive(Clone, Copy, Debug, PartialEq, Eq)]
 pub struct Checked {
     pub answer: Answer,
     pub yes: bool,
@@ -21,13 +22,12 @@ impl Work {
     pub fn check_list(self, list: &[u8]) -> Checked
         ensures { result ≡ check_call self list.now }
     {
-        let table = self.table;
-        let rows = table.rows;
-        check_list_in(&rows, self.n, self.limit, self.place, list)
+        check_list_in(&self.table.rows, self.n, self.limit, self.place, list)
     }
 }
 
 // The same on a state that lies in parts: mark and end say nothing of it.
+// By hand, no struct: C lends the parts, and a Work would be a copy of its rows.
 pub fn check_list_in(rows: &[u64; 64], n: usize, limit: usize, place: usize, list: &[u8]) -> Checked
     ensures { (mark : Bool) (end : End) → result ≡ check_call (state n rows.now limit place mark end) list.now }
 {
@@ -67,10 +67,8 @@ fn good_entries(rows: &[u64; 64], n: usize, list: &[u8]) -> bool
     ensures { result ≡ good_entries n rows.now list.now }
 {
     let mut good = true;
-    let mut i = 0usize;
-    while i < n {
-        good = good_entry(n, rows[i], wide(list[i])) & good;
-        i += 1;
+    for (i, entry) in list.iter().enumerate() {
+        good = good_entry(n, rows[i], *entry as usize) & good;
     }
     good
 }
@@ -93,20 +91,11 @@ fn returns_last(n: usize, list: &[u8]) -> bool
     ensures { Decides result (Returns n (choice_of list.now)) }
 {
     let mut station = 0usize;
-    let mut moves = 0usize;
-    while moves < n {
-        station = wide(list[station]) - 1;
-        moves += 1;
+    for moves in 0..n {
+        station = list[station] as usize - 1;
         if station == 0 {
-            return moves == n;
+            return moves + 1 == n;
         }
     }
     false
-}
-
-// A cast of an element in place would ask that it fits; of a parameter that is known.
-fn wide(x: u8) -> usize
-    ensures { (result ≡ x) × (result < 256) }
-{
-    x as usize
 }

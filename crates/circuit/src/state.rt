@@ -6,7 +6,7 @@ ghost use Rattle.circuit.specs.State.{state, blank, fresh, moved, last_place, ba
 use crate::card::End;
 use crate::table::{Table, stray};
 
-#[derive(Clone, Copy)]
+#[derive(Clone, Copy, Debug, PartialEq, Eq)]
 pub struct Work {
     pub n: usize,
     pub table: Table,
@@ -69,13 +69,12 @@ impl Work {
     pub fn is_bad(self) -> bool
         ensures { result ≡ bad self }
     {
-        let table = self.table;
-        let rows = table.rows;
-        is_bad_state(&rows, self.n, self.limit, self.place)
+        is_bad_state(&self.table.rows, self.n, self.limit, self.place)
     }
 }
 
 // The same of a state that lies in parts: mark and end say nothing of it.
+// By hand, no struct: C lends the parts, and a Work would be a copy of its rows.
 pub fn is_bad_state(rows: &[u64; 64], n: usize, limit: usize, place: usize) -> bool
     ensures { (mark : Bool) (end : End) → result ≡ bad (state n rows.now limit place mark end) }
 {

@@ -1,13 +1,13 @@
 // The leg table: its full one, its legs, and its stray legs.
-ghost use Rattle.std.specs.Prelude.{◌≡◌, ℕ, ◌≤◌};
+ghost use Rattle.std.specs.Prelude.{◌≡◌, ◌≤◌};
 ghost use Rattle.std.specs.Int.Count.{ones};
 ghost use Rattle.bitset.specs.Sets.{sum};
 ghost use Rattle.bitset.specs.Upto.{row};
 ghost use Rattle.circuit.specs.Legs.{full_table, capped, difference, legs};
-ghost use Rattle.circuit.specs.State.{stray_row, stray};
-ghost use Rattle.circuit.specs.inner.Tables.{Square, full_row, some, Tells};
+ghost use Rattle.circuit.specs.State.{stray};
+ghost use Rattle.circuit.specs.inner.Tables.{Square, Tells};
 
-#[derive(Clone, Copy)]
+#[derive(Clone, Copy, Debug, PartialEq, Eq)]
 pub struct Table {
     pub rows: [u64; 64],
 }
@@ -22,24 +22,16 @@ impl Table {
     pub fn full(n: usize) -> Table
         ensures { result.rows ≡ full_table (capped n) }
     {
-        let stations = capped(n);
+        let stations = n.min(Table::MAX);
         let all = bitset::full(stations);
         let mut own = 1u64;
         let mut rows = [0u64; 64];
-        let mut i = 0usize;
-        while i < stations {
+        for i in 0..stations {
             rows[i] = all & !own;
             own <<= 1;
-            i += 1;
         }
         Table { rows }
     }
-}
-
-fn capped(n: usize) -> usize
-    ensures { result ≡ capped n }
-{
-    if n < Table::MAX { n } else { Table::MAX }
 }
 
 // The legs of the one table that do not stand in the other.
@@ -47,10 +39,8 @@ pub fn difference(rows: &[u64; 64], other: &[u64; 64]) -> [u64; 64]
     ensures { result ≡ difference rows.now other.now }
 {
     let mut left = [0u64; 64];
-    let mut i = 0usize;
-    while i < Table::MAX {
+    for i in 0..Table::MAX {
         left[i] = bitset::difference(rows[i], other[i]);
-        i += 1;
     }
     left
 }
@@ -60,13 +50,7 @@ pub fn difference(rows: &[u64; 64], other: &[u64; 64]) -> [u64; 64]
 pub fn legs(rows: &[u64; 64]) -> u32
     ensures { (result ≡ sum 64 (λ i. ones (row rows.now i))) × (result ≤ 4096) }
 {
-    let mut count = 0u32;
-    let mut i = 0usize;
-    while i < Table::MAX {
-        count += row_legs(rows[i]);
-        i += 1;
-    }
-    count
+    set_bits(rows, Table::MAX)
 }
 
 // The same from the rows of the n stations alone.
@@ -74,20 +58,19 @@ pub fn legs_of(rows: &[u64; 64], n: usize) -> u32
     requires { (n ≤ 64) × Square n rows.now }
     ensures { (result ≡ legs n rows.now) × (result ≤ 4096) }
 {
-    let mut total = 0u32;
-    let mut i = 0usize;
-    while i < n {
-        total += row_legs(rows[i]);
-        i += 1;
-    }
-    total
+    set_bits(rows, n)
 }
 
-// The bound is known of a word that is a parameter, and not of an element.
-fn row_legs(legs: u64) -> u32
-    ensures { (result ≡ ones legs) × (result ≤ 64) }
+// The bits that are set in the first n rows.
+fn set_bits(rows: &[u64; 64], n: usize) -> u32
+    requires { n ≤ 64 }
+    ensures { (result ≡ sum n (λ i. ones (row rows.now i))) × (result ≤ 4096) }
 {
-    u64::count_ones(legs)
+    let mut count = 0u32;
+    for i in 0..n {
+        count += rows[i].count_ones();
+    }
+    count
 }
 
 // Has the table a leg that the full table of n has not? What is found in the rows is gathered in one word.
@@ -99,7 +82,7 @@ pub(crate) fn stray(rows: &[u64; 64], n: usize) -> bool
     stray_beyond(rows, n, within) != 0
 }
 
-// The rows of the n stations.
+// The rows of the n stations. The station's own bit moves along, here and in `full`: a shift by i in each row took a third more time.
 fn stray_within(rows: &[u64; 64], n: usize) -> u64
     requires { n ≤ 64 }
     ensures { Tells n rows.now n result }
@@ -107,11 +90,10 @@ fn stray_within(rows: &[u64; 64], n: usize) -> u64
     let all = bitset::full(n);
     let mut own = 1u64;
     let mut found = 0u64;
-    let mut i = 0usize;
-    while i < n {
-        found |= stray_legs(rows[i], all & !own);
+    for i in 0..n {
+        let full_row = all & !own;
+        found |= rows[i] & !full_row;
         own <<= 1;
-        i += 1;
     }
     found
 }
@@ -122,17 +104,8 @@ fn stray_beyond(rows: &[u64; 64], n: usize, within: u64) -> u64
     ensures { Tells n rows.now 64 result }
 {
     let mut found = within;
-    let mut i = n;
-    while i < Table::MAX {
+    for i in n..Table::MAX {
         found |= rows[i];
-        i += 1;
     }
     found
-}
-
-// The legs that the full row has not. The range of a word is known of a parameter, and not of an element.
-fn stray_legs(legs: u64, full: u64) -> u64
-    ensures { (n i : ℕ) → n ≤ 64 → full ≡ full_row n i → some result ≡ stray_row n i legs }
-{
-    legs & !full
 }

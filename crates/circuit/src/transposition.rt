@@ -1,8 +1,8 @@
 // The columns of a table: it is transposed.
-ghost use Rattle.std.specs.Prelude.{◌≡◌, ◌+◌, ◌*◌, ◌^◌, ◌≤◌, ◌<◌, length};
+ghost use Rattle.std.specs.Prelude.{◌≡◌, ◌+◌, ◌*◌, ◌^◌, ◌≤◌};
 ghost use Rattle.circuit.specs.Legs.{columns};
 ghost use Rattle.circuit.specs.inner.Tables.{Square};
-ghost use Rattle.circuit.specs.inner.Columns.{Corner, clear_at, Pairs, Swapped};
+ghost use Rattle.circuit.specs.inner.Columns.{Corner, Pairs, Swapped};
 
 // Which stations have a leg into each station.
 pub fn columns(rows: &[u64; 64], n: usize) -> [u64; 64]
@@ -10,11 +10,7 @@ pub fn columns(rows: &[u64; 64], n: usize) -> [u64; 64]
     ensures { result ≡ columns n rows.now }
 {
     let mut words = [0u64; 64];
-    let mut i = 0usize;
-    while i < n {
-        words[i] = rows[i];
-        i += 1;
-    }
+    words[..n].copy_from_slice(&rows[..n]);
     transpose(&mut words, n);
     words
 }
@@ -26,11 +22,9 @@ pub fn transpose(words: &mut [u64; 64], n: usize)
     ensures { words.new ≡ columns n words.old }
 {
     let used = digits(n);
-    let mut b = 6usize;
-    while 0 < b {
-        b -= 1;
+    for b in (0..6).rev() {
         if b < used {
-            swap_quarters(words, 1usize << b, clear_at(b), 1usize << (used - 1 - b));
+            swap_quarters(words, 1usize << b, CLEAR_AT[b], 1usize << (used - 1 - b));
         }
     }
 }
@@ -40,58 +34,45 @@ fn digits(n: usize) -> usize
     requires { n ≤ 64 }
     ensures { (result ≤ 6) × (n ≤ 2 ^ result) }
 {
-    if n <= 8 {
-        return 3;
+    match n {
+        0..=8 => 3,
+        9..=16 => 4,
+        17..=32 => 5,
+        _ => 6,
     }
-    if n <= 16 {
-        return 4;
-    }
-    if n <= 32 {
-        return 5;
-    }
-    6
 }
 
-// The bits whose number has digit b clear.
-fn clear_at(b: usize) -> u64
-    requires { b < 6 }
-    ensures { result ≡ clear_at b }
-{
-    match b {
-        0 => 0x5555555555555555,
-        1 => 0x3333333333333333,
-        2 => 0x0F0F0F0F0F0F0F0F,
-        3 => 0x00FF00FF00FF00FF,
-        4 => 0x0000FFFF0000FFFF,
-        _ => 0x00000000FFFFFFFF,
-    }
-}
+// For each digit b the bits whose number has it clear.
+const CLEAR_AT: [u64; 6] = [
+    0x5555555555555555,
+    0x3333333333333333,
+    0x0F0F0F0F0F0F0F0F,
+    0x00FF00FF00FF00FF,
+    0x0000FFFF0000FFFF,
+    0x00000000FFFFFFFF,
+];
 
 // In each of the first squares of 2 * half words and bits, the upper right quarter and the lower left change places.
 fn swap_quarters(words: &mut [u64; 64], half: usize, mask: u64, squares: usize)
-    requires { (half ≤ 32) × (squares * (2 * half) ≤ 64) × (length words.old ≡ 64) }
+    requires { (half ≤ 32) × (squares * (2 * half) ≤ 64) }
     ensures { Swapped half mask squares words.old words.new }
 {
-    let mut p = 0usize;
-    while p < squares {
+    for p in 0..squares {
         swap_square(words, p * (2 * half), half, mask);
-        p += 1;
     }
 }
 
 // The square from word `at` on: each word of its first half with its partner in the second.
 fn swap_square(words: &mut [u64; 64], at: usize, half: usize, mask: u64)
-    requires { (half ≤ 32) × (at + 2 * half ≤ 64) × (length words.old ≡ 64) }
+    requires { (half ≤ 32) × (at + 2 * half ≤ 64) }
     ensures { Pairs half mask at half words.old words.new }
 {
-    let mut i = 0usize;
-    while i < half {
+    for i in 0..half {
         let k = at + i;
         let m = k + half;
         let lo = words[k];
         let hi = words[m];
         words[k] = (lo & mask) | ((hi << half) & !mask);
         words[m] = ((lo >> half) & mask) | (hi & !mask);
-        i += 1;
     }
 }

@@ -2,12 +2,8 @@
 use mathlib.Core.Path.{◌≡◌, ◌∙◌, ap, sym}
 use Prim.Native.Nat.{ℕ, ◌-◌, ◌^◌}
 use native.Mathlib.Omega.{arith}
-use lib.Pow.{pow_pos}
 use Rattle.bitset.proofs.MachineLaws.{shl_one, full_set_of}
 use Rattle.bitset.proofs.full.Goals as goal
-
-pub overflow_sub-result : goal.overflow_sub-result
-overflow_sub-result c = omega (arith, shl_one 64 c.args.n c.if-n-lt64.true, pow_pos c.args.n)
 
 pub returns-then-n-lt64 : goal.returns-then-n-lt64
 returns-then-n-lt64 c = ap (λ (x : ℕ). x - 1) (shl_one 64 c.args.n c.if-n-lt64.true) ∙ full_set_of 64 c.args.n c.requires

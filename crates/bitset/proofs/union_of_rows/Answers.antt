@@ -3,65 +3,51 @@ use mathlib.Core.Bool.{Bool, ◌||◌, or-false, or_assoc}
 use mathlib.Core.List.{List}
 use Prim.Native.Nat.{ℕ, ◌-◌, ◌^◌, ◌<◌}
 use native.Mathlib.Omega.{arith}
-use lib.Bits.{bit_and, and_le_l}
+use lib.Bits.{bit_and, bit_or, and_le_l}
 use lib.Count.{count_trailing_zeros}
-use Rattle.bitset.specs.Sets.{has, set_of}
+use Rattle.bitset.specs.Sets.{has}
 use Rattle.bitset.specs.Upto.{row}
-use Rattle.bitset.proofs.HasLaws.{has_zero}
-use Rattle.bitset.proofs.SetLaws.{has_set_of, eq_set_of}
-use Rattle.bitset.proofs.LeastLaws.{trailing_least, ones_clear}
+use Rattle.bitset.specs.declared.Members.{Members}
+use Rattle.bitset.proofs.HasLaws.{has_zero, has_or}
+use Rattle.bitset.proofs.SetLaws.{eq_set_of}
 use Rattle.bitset.proofs.MemberLaws.{any_least, any_empty}
 use Rattle.bitset.proofs.union_of_rows.Invariants.{hit}
 use Rattle.bitset.proofs.union_of_rows.Goals as goal
-use Rattle.bitset.proofs.union_of_rows.Goals.{In-loop-rest}
 
--- `more` is `out` with the row of the least member of `rest`
-turn : (rows : List ℕ) (rest out more k : ℕ) → 0 < rest → rest < 2 ^ 64 → k < 64
-    → more ≡ set_of 64 (λ j. has out j || has (row rows (count_trailing_zeros 64 rest)) j)
-    → has more k || hit rows (bit_and rest (rest - 1)) k ≡ has out k || hit rows rest k
-turn rows rest out more k p h l e =
-    let its : ℕ = row rows (count_trailing_zeros 64 rest) in
-    let left : Bool = hit rows (bit_and rest (rest - 1)) k in
-    ap (λ (w : ℕ). has w k || left) e
-    ∙ ap (λ (x : Bool). x || left) (has_set_of 64 (λ j. has out j || has its j) k l)
-    ∙ or_assoc (has out k) (has its k) left
-    ∙ ap (λ (x : Bool). has out k || x) (sym (any_least 64 rest (λ i. has (row rows i) k) p h))
+-- `out` takes in row i, and `others` has the members of `rest` but the least, which is i
+turn : (rows : List ℕ) (rest out i others k : ℕ) → 0 < rest → rest < 2 ^ 64
+    → i ≡ count_trailing_zeros 64 rest → others ≡ bit_and rest (rest - 1)
+    → has (bit_or out (row rows i)) k || hit rows others k ≡ has out k || hit rows rest k
+turn rows rest out i others k p h at less =
+    let left : Bool = hit rows others k in
+    ap (λ (x : Bool). x || left) (has_or out (row rows i) k)
+    ∙ or_assoc (has out k) (has (row rows i) k) left
+    ∙ ap (λ (x : Bool). has out k || x) (
+    ap (λ (t : ℕ). has (row rows t) k || hit rows others k) at
+    ∙ ap (λ (v : ℕ). has (row rows (count_trailing_zeros 64 rest)) k || hit rows v k) less
+    ∙ sym (any_least 64 rest (λ t. has (row rows t) k) p h))
 
-low : (c : In-loop-rest) → count_trailing_zeros 64 c.loop-rest.rest < 64
-low c = (trailing_least 64 c.loop-rest.rest (omega arith) (omega arith)).below
+pub loop-i-init : goal.loop-i-init
+loop-i-init c =
+    let same = ap (λ (m : Members). m.rest) c.into_iter-i-iterator.ensures.into_iter_gives ∙ c.of-i-items.ensures in (
+      omega (arith, same),
+      λ k l. ap (λ (x : Bool). x || hit c.args.rows.now c.into_iter-i-iterator.result.rest k) (has_zero k)
+          ∙ ap (λ (s : ℕ). hit c.args.rows.now s k) same,
+    )
 
-pub loop-rest-init : goal.loop-rest-init
-loop-rest-init c = (c.ranges.set.fits, omega arith, λ k l. ap (λ (x : Bool). x || hit c.args.rows.now c.args.set k) (has_zero k))
-
-pub overflow_cast-i : goal.overflow_cast-i
-overflow_cast-i c = omega (arith, low c)
-
-pub offset_bounds-rows-i : goal.offset_bounds-rows-i
-offset_bounds-rows-i c = omega (arith, low c)
-
-pub bounds-rows-i : goal.bounds-rows-i
-bounds-rows-i c = low (goal.at.bounds-rows-i c).In-loop-rest
-
-pub overflow_sub-rest : goal.overflow_sub-rest
-overflow_sub-rest c = omega arith
-
-pub loop-rest-smaller : goal.loop-rest-smaller
-loop-rest-smaller c = let l = c.loop-rest in omega (arith, ones_clear 64 l.rest (omega arith) l.invariant.0)
-
-pub loop-rest-preserved : goal.loop-rest-preserved
-loop-rest-preserved c =
-    let l = c.loop-rest in
-    let rows : List ℕ = c.args.rows.now in (
-      omega (arith, and_le_l l.rest (l.rest - 1)),
-      c.union-out.type_inv,
-      λ k b. turn rows l.rest l.out c.union-out.result k (omega arith) l.invariant.0 b c.union-out.ensures ∙ l.invariant.2 k b,
+pub loop-i-preserved : goal.loop-i-preserved
+loop-i-preserved c =
+    let l = c.loop-i in
+    let step = c.in-Some.ensures.steps in (
+      omega (arith, step.others, and_le_l l.i-iterator.rest (l.i-iterator.rest - 1)),
+      λ k b. turn c.args.rows.now l.i-iterator.rest l.out c.in-Some.i c.next.new.self.rest k step.nonempty l.invariant.0 step.least step.others ∙ l.invariant.1 k b,
     )
 
 pub returns : goal.returns
 returns c =
-    let inv = c.loop-rest.invariant in
+    let inv = c.loop-i.invariant in
     let rows : List ℕ = c.args.rows.now in
-    let out : ℕ = c.loop-rest.out in
-    eq_set_of 64 out (hit rows c.args.set) inv.1
+    let out : ℕ = c.loop-i.out in
+    eq_set_of 64 out (hit rows c.args.set) c.loop-i.auto.out-fits.fits
     (λ k l. sym (or-false (has out k)) ∙ ap (λ (x : Bool). has out k || x) (sym (any_empty 64 (λ i. has (row rows i) k)))
-    ∙ ap (λ (s : ℕ). has out k || hit rows s k) (sym c.loop-rest-test.false) ∙ inv.2 k l)
+    ∙ ap (λ (s : ℕ). has out k || hit rows s k) (sym c.in-None.ensures.steps.0) ∙ inv.1 k l)

@@ -2,7 +2,6 @@
 use Rattle.std.specs.Prelude.{◌≡◌, Bool, false, not, cond, List, ℕ, ◌^◌, ◌<◌, eqb, ltb, length}
 use Rattle.bitset.specs.Sets.{set_of, any}
 use Rattle.bitset.specs.Upto.{row}
-use Rattle.circuit.specs.declared.verdict.Verdict.{Verdict}
 use Rattle.circuit.specs.Legs.{columns}
 use Rattle.circuit.specs.State.{stray, stray_row}
 
@@ -15,11 +14,6 @@ pub record Columned (n : ℕ) (rows cols : List ℕ) : Type 0 where
   pub clean : stray n rows ≡ false
   pub len : length rows ≡ 64
   pub columns : cols ≡ columns n rows
-
--- the verdict v was taken: whether it is none, and the rows that it leaves with their columns
-pub record TableTaken (n : ℕ) (v : Verdict) (none : Bool) (rows cols : List ℕ) : Type 0 where
-  pub verdict : v ≡ record { none = none; left = rows }
-  pub table : Columned n rows cols
 
 -- row i of the full table
 unfoldable pub full_row : ℕ → ℕ → ℕ

@@ -7,12 +7,12 @@ use Rattle.circuit.proofs.list.good_entries.Goals as goal
 
 pub loop-i-init : goal.loop-i-init
 unfolding all
-loop-i-init c = (omega arith, refl)
+loop-i-init c = refl
 
 pub loop-i-preserved : goal.loop-i-preserved
 unfolding all
-loop-i-preserved c = (omega arith, rw (add-one, c.good_entry-good.ensures, c.wide.ensures.0, c.loop-i.invariant.1))
+loop-i-preserved c = rw (add-one, c.good_entry-good.ensures, c.loop-i.invariant)
 
 pub returns : goal.returns
 unfolding good_entries
-returns c = let e : c.loop-i.i ≡ c.args.n = omega arith in rw e at c.loop-i.invariant.1
+returns c = let e : c.loop-i.i ≡ c.args.n = omega (arith, c.requires.1) in rw e at c.loop-i.invariant

@@ -1,6 +1,5 @@
 -- `circuit::good_entries` meets its contract. The invariant: are the entries below i good?
 use mathlib.Core.Path.{◌≡◌}
-use Prim.Native.Nat.{◌-◌, ◌≤◌}
 use lib.ListN.{get_or}
 use Rattle.bitset.specs.Sets.{all}
 use Rattle.bitset.specs.Upto.{row}
@@ -8,7 +7,4 @@ use Rattle.circuit.specs.inner.Lists.{good_entry}
 use Rattle.circuit.proofs.list.good_entries.Given as goal
 
 abbrev pub invariant-loop-i : goal.invariant-loop-i
-invariant-loop-i l = (l.i ≤ l.n) × (l.good ≡ all l.i (λ k. good_entry l.n (row l.rows k) (get_or l.list k 0)))
-
-abbrev pub decreases-loop-i : goal.decreases-loop-i
-decreases-loop-i l = l.n - l.i
+invariant-loop-i l = l.good ≡ all l.i (λ k. good_entry l.n (row l.rows k) (get_or l.list k 0))

@@ -5,7 +5,4 @@ use Rattle.circuit.proofs.ColumnLaws.{TurnedTo}
 use Rattle.circuit.proofs.transposition.transpose.Given as goal
 
 abbrev pub invariant-loop-b : goal.invariant-loop-b
-invariant-loop-b l = (l.b ≤ 6) × TurnedTo l.initial.words l.used l.b l.words × (l.used ≤ l.b → l.words ≡ l.initial.words)
-
-abbrev pub decreases-loop-b : goal.decreases-loop-b
-decreases-loop-b l = l.b
+invariant-loop-b l = TurnedTo l.initial.words l.used l.b l.words × (l.used ≤ l.b → l.words ≡ l.initial.words)

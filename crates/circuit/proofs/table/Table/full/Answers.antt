@@ -9,20 +9,16 @@ use Rattle.circuit.proofs.LegsLaws.{full_is, full_out, full_row_lem}
 use Rattle.circuit.proofs.table.Table.full.Goals as goal
 
 pub loop-i-init : goal.loop-i-init
-loop-i-init c = (omega arith, λ _. refl, changed_none 64 _ _ (length-replicate {A = ℕ} 64 0))
+loop-i-init c = (λ _. refl, changed_none 64 _ _ (length-replicate {A = ℕ} 64 0))
 
 pub loop-i-preserved : goal.loop-i-preserved
 loop-i-preserved c =
     let v = c.loop-i in
-    let f = c in
-    let n = f.capped-stations.result in
-    let own : v.own ≡ 2 ^ v.i = v.invariant.1 (omega arith) in (
-      omega arith,
-      shl_next 64 v.i v.own own,
-      changed_more _ v.invariant.2 (omega arith) (full_row_lem n v.i _ _ (omega arith) (omega arith) f.full-all.ensures own),
-    )
+    let n = c.min-stations.result in
+    let own : v.own ≡ 2 ^ v.i = v.invariant.0 (omega arith) in
+    (shl_next 64 v.i v.own own, changed_more _ v.invariant.1 (omega arith) (full_row_lem n v.i _ _ (omega arith) (omega arith) c.full-all.ensures own))
 
 pub returns : goal.returns
 returns c =
-    let n = c.capped-stations in
-    changed_end 0 c.loop-i.invariant.2 (λ k g l. get_or-replicate 64 k 0 0 l ∙ sym (full_out n.result k (omega arith))) ∙ full_is _ ∙ ap full_table n.ensures
+    let n = c.min-stations in
+    changed_end 0 c.loop-i.invariant.1 (λ k g l. get_or-replicate 64 k 0 0 l ∙ sym (full_out n.result k (omega arith))) ∙ full_is _ ∙ ap full_table n.ensures
