@@ -1,15 +1,14 @@
 -- The pairs of a level that groups outside it join, what the words of their ends say, and the assignment of the groups to them. Assumes nothing.
-use mathlib.Core.Path.{◌≡◌, refl, sym, ap, ◌∙◌, subst}
+use mathlib.Core.Path.{◌≡◌, refl, sym, ap, ◌∙◌}
 use mathlib.Core.Logic.{◌≢◌, ⊎_elim}
-use mathlib.Core.Bool.{Bool, true, false, ◌&&◌}
+use mathlib.Core.Bool.{true, false, ◌&&◌}
 use mathlib.Core.List.{List}
 use Prim.Native.Nat.{ℕ, suc, ◌+◌, ◌-◌, ◌^◌, ◌<◌, ◌≤◌}
-use native.Mathlib.Nat.{not-suc-le-zero}
 use native.Mathlib.Omega.{arith}
 use lib.Bits.{bit_and, bit_or, and_le_l, and_le_r}
 use lib.Count.{count_trailing_zeros}
 use lib.Dec.{eqb, ltb}
-use lib.ListN.{length, set, length-set}
+use lib.ListN.{length, set}
 use lib.Seq.{get_or-set_same, get_or-set_other}
 use borrow.Author.Tests.{eqb-true, eqb-false, lt-ltb}
 use Rattle.bitset.specs.Sets.{has, set_of, any}
@@ -22,7 +21,7 @@ use Rattle.bitset.proofs.SetLaws.{word_has}
 use Rattle.bitset.proofs.WordLaws.{in_and, in_diff, diff_none, without_least}
 use Rattle.circuit.specs.Legs.{leg}
 use Rattle.matching.specs.Matching.{Inside, Exact}
-use Rattle.idle.specs.declared.groups.Group.{Group}
+use Rattle.idle.specs.declared.group.Group.{Group}
 use Rattle.separator.specs.declared.reach.Led.{Led}
 use Rattle.separator.specs.Components.{grow}
 use Rattle.idle.specs.inner.Groups.{Part, Along, Reaches, GroupIn, group_at, Pair, Pairs, Settles}
@@ -78,39 +77,22 @@ pub record Joins (s : ℕ) (g : Group) (tails heads : ℕ) : Type 0 where
   pub head : Part heads s
   pub pairs : (t c b : List ℕ) (room : ℕ) (G : GroupIn t c b room g) → Pairs t c room s G.pivot tails heads
 
--- they do where they are the ends by way of any pivot that leads where the group's does
-pub joins_by : (s : ℕ) (f g : Group) (tails heads : ℕ) → f ≡ g → Part tails s → Part heads s
-    → ((t c : List ℕ) (room p : ℕ) → Reaches t room p f.ahead → Reaches c room p f.back → Pairs t c room s p tails heads) → Joins s g tails heads
-joins_by s f g tails heads e tail head pairs =
-    subst (λ (g : Group). Joins s g tails heads) e
-    (record { tail = tail; head = head; pairs = λ t c b room G. pairs t c room G.pivot G.ahead G.back })
-
 -- ---- gathering them, group by group
 
-pub record Joining (s : ℕ) (groups : List ℕ) (g : ℕ) (out into : List ℕ) : Type 0 where
-  pub out_size : length out ≡ 64
-  pub into_size : length into ≡ 64
-  pub each : (k : ℕ) → k < g → Joins s (group_at groups k) (row out k) (row into k)
+-- the words of the groups below g say so
+abbrev pub Joining : ℕ → List Group → ℕ → List ℕ → List ℕ → Type 0
+Joining s groups g out into = (k : ℕ) → k < g → Joins s (group_at groups k) (row out k) (row into k)
 
-pub joining_start : (s : ℕ) (groups out into : List ℕ) → length out ≡ 64 → length into ≡ 64 → Joining s groups 0 out into
-joining_start s groups out into lo li = record { out_size = lo; into_size = li; each = λ k l. absurd (not-suc-le-zero l) }
-
-pub joining_more : (s : ℕ) (groups : List ℕ) (g d : ℕ) (out into : List ℕ) (tails heads : ℕ) → Joining s groups g out into → g < 64
+pub joining_more : (s : ℕ) (groups : List Group) (g d : ℕ) (out into : List ℕ) (tails heads : ℕ) → Joining s groups g out into → g < length out → g < length into
     → Joins s (group_at groups g) tails heads → d ≡ suc g → Joining s groups d (set out g tails) (set into g heads)
-joining_more s groups g d out into tails heads J l new q =
-    record { out_size = length-set out g tails ∙ J.out_size; into_size = length-set into g heads ∙ J.into_size; each = each }
-  where
-    each : (k : ℕ) → k < d → Joins s (group_at groups k) (row (set out g tails) k) (row (set into g heads) k)
-    each k lk =
-        ⊎_elim
-        (λ (e : k ≡ g). rw (e, get_or-set_same out g tails 0 (omega (arith, J.out_size)), get_or-set_same into g heads 0 (omega (arith, J.into_size))) new)
-        (λ (m : k < g). rw (get_or-set_other out g k tails 0 (λ z. omega arith), get_or-set_other into g k heads 0 (λ z. omega arith)) (J.each k m))
-        (at_or_below (omega arith))
+joining_more s groups g d out into tails heads each lo li new q k lk =
+    ⊎_elim
+    (λ (e : k ≡ g). rw (e, get_or-set_same out g tails 0 (omega arith), get_or-set_same into g heads 0 (omega arith)) new)
+    (λ (m : k < g). rw (get_or-set_other out g k tails 0 (λ z. omega arith), get_or-set_other into g k heads 0 (λ z. omega arith)) (each k m))
+    (at_or_below (omega arith))
 
 -- the words of q groups, and after them those of the levels below
-pub record Lined (s : ℕ) (groups : List ℕ) (q tails heads : ℕ) (out into : List ℕ) : Type 0 where
-  pub out_size : length out ≡ 64
-  pub into_size : length into ≡ 64
+pub record Lined (s : ℕ) (groups : List Group) (q tails heads : ℕ) (out into : List ℕ) : Type 0 where
   pub pairs : (g : ℕ) → g < q → (t c b : List ℕ) (room : ℕ) (G : GroupIn t c b room (group_at groups g)) → Pairs t c room s G.pivot (row out g) (row into g)
   pub tail : row out q ≡ tails
   pub head : row into q ≡ heads
@@ -124,32 +106,34 @@ inside_more s fits q v h old new g x l e =
     (λ (m : g < q). old g m x (ap (λ (w : ℕ). has w x) (sym (get_or-set_other fits q g v 0 (λ z. omega arith))) ∙ e))
     (at_or_below (omega arith))
 
-pub lined : (s : ℕ) (groups : List ℕ) (q tails heads : ℕ) (out into : List ℕ) → Joining s groups q out into → q < 64 → Part tails s → Part heads s
-    → Lined s groups q tails heads (set out q tails) (set into q heads)
-lined s groups q tails heads out into J l pt ph =
+pub lined : (s : ℕ) (groups : List Group) (q tails heads : ℕ) (out into : List ℕ) → Joining s groups q out into → q < length out → q < length into
+    → Part tails s → Part heads s → Lined s groups q tails heads (set out q tails) (set into q heads)
+lined s groups q tails heads out into J lo li pt ph =
     record {
-      out_size = length-set out q tails ∙ J.out_size;
-      into_size = length-set into q heads ∙ J.into_size;
-      pairs = λ g m. rw (get_or-set_other out q g tails 0 (λ z. omega arith), get_or-set_other into q g heads 0 (λ z. omega arith)) (J.each g m).pairs;
-      tail = get_or-set_same out q tails 0 (omega (arith, J.out_size));
-      head = get_or-set_same into q heads 0 (omega (arith, J.into_size));
-      out_inside = inside_more s out q tails (omega (arith, J.out_size)) (λ g m. (J.each g m).tail) pt;
-      into_inside = inside_more s into q heads (omega (arith, J.into_size)) (λ g m. (J.each g m).head) ph;
+      pairs = λ g m. rw (get_or-set_other out q g tails 0 (λ z. omega arith), get_or-set_other into q g heads 0 (λ z. omega arith)) (J g m).pairs;
+      tail = get_or-set_same out q tails 0 lo;
+      head = get_or-set_same into q heads 0 li;
+      out_inside = inside_more s out q tails lo (λ g m. (J g m).tail) pt;
+      into_inside = inside_more s into q heads li (λ g m. (J g m).head) ph;
     }
 
 -- ---- what is left out
 
-module _ (fits : List ℕ) (p s : ℕ) (words : List ℕ) (complete : Bool) (spare : ℕ) (E : Exact fits p s complete spare) where
+module _ (fits : List ℕ) (p s : ℕ) (words : List ℕ) (spare : ℕ) (E : Exact fits p s true spare) where
   -- all stations are spare
-  pub settles_all : spare ≡ s → complete ≡ true → Settles fits p s words
-  settles_all e c = record { some = E.some.holds c; spare = λ x y i _ _. ((E.left c x).holds (ap (λ (w : ℕ). has w x) e ∙ i)).1 }
+  pub settles_all : spare ≡ s → Settles fits p s words
+  settles_all e = record { some = E.some.holds refl; spare = λ x y i _ _. ((E.left refl x).holds (ap (λ (w : ℕ). has w x) e ∙ i)).1 }
 
   -- all that are in the word of a station of s, the members of w
   pub settles_some : (w : ℕ) → s < 2 ^ 64 → spare < 2 ^ 64 → w ≡ set_of 64 (λ k. any 64 (λ i. has s i && has (row words i) k))
-      → complete ≡ true → bit_and (bit_and w s) ((2 ^ 64 - 1) - spare) ≡ 0 → Settles fits p s words
+      → bit_and (bit_and w s) ((2 ^ 64 - 1) - spare) ≡ 0 → Settles fits p s words
   unfolding leg
-  settles_some w hs hf e c z =
-      record { some = E.some.holds c; spare = λ x y i j l. ((E.left c x).holds (diff_none 64 (bit_and w s) spare (omega (arith, and_le_r w s)) hf z x (has_and w s x ∙ and_intro (entered x y i j l) i))).1 }
+  settles_some w hs hf e z =
+      record {
+        some = E.some.holds refl;
+        spare = λ x y i j l.
+            ((E.left refl x).holds (diff_none 64 (bit_and w s) spare (omega (arith, and_le_r w s)) hf z x (has_and w s x ∙ and_intro (entered x y i j l) i))).1;
+      }
     where
       entered : (x y : ℕ) → has s x ≡ true → has s y ≡ true → leg words y x ≡ true → has w x ≡ true
       entered x y i j l =

@@ -3,22 +3,17 @@
 ghost use Rattle.std.specs.Prelude.{true, List, ◌≢◌, ◌≡◌, ℕ, ◌+◌, ◌^◌, ◌<◌, ◌≤◌, length, take};
 ghost use Rattle.bitset.specs.Sets.{has};
 ghost use Rattle.bitset.specs.Upto.{row};
-ghost use Rattle.circuit.specs.inner.Tables.{Columned};
 ghost use Rattle.matching.specs.Matching.{Inside};
 ghost use Rattle.separator.specs.Levels.{levels, unreached, inner};
-ghost use Rattle.idle.specs.inner.Groups.{Part, Along, Reaches, GroupIn, group_at, Pairs, Settles, Spans};
+ghost use Rattle.idle.specs.inner.Groups.{Part, Along, Reaches, GroupIn, group_at, Pairs, Settles, Spans, ends_at};
 ghost use Rattle.idle.specs.inner.Idle.{Idle};
 ghost use Rattle.separator.specs.inner.Reach.{Linked};
 
-use crate::groups::{group_at, led_on, regroup};
-use separator::{Led, grown, led_from};
-
-// The first and the second stations of pairs of a level.
-#[derive(Clone, Copy)]
-struct Ends {
-    tails: u64,
-    heads: u64,
-}
+use crate::group::led_on;
+use crate::groups::Groups;
+use crate::ways::Ways;
+use circuit::Network;
+use separator::{Ends, Led, Levels, grown, led_from};
 
 // The stations of `own` that have another one in `other`.
 fn paired(own: u64, other: u64) -> u64
@@ -56,60 +51,49 @@ fn leads_to_all(words: &[u64; 64], n: usize, seen: u64, s: u64, led: Led) -> boo
     led.all | grown(words, room, led.beyond & s) == bitset::full(n)
 }
 
-// The levels below each level are one group, with the seed as its pivot: `tails` and `heads` get the ends of its pairs in each inner level. Answers whether the
-// seed leads to all stations, and all lead to it.
-fn rise(
-    rows: &[u64; 64],
-    cols: &[u64; 64],
-    n: usize,
-    seed: usize,
-    level: &[u64; 64],
-    count: usize,
-    tails: &mut [u64; 32],
-    heads: &mut [u64; 32],
-) -> bool
-    requires { (n ≤ 64) × (seed < 64) × (2 ≤ count) × (count ≤ 33) × (row level.now 0 ≡ 2 ^ seed) × (length tails.old ≡ 32) × (length heads.old ≡ 32) }
-    ensures { (length tails.new ≡ 32) × (length heads.new ≡ 32)
-        × ((k : ℕ) → 1 ≤ k → k + 1 < count → (w : ℕ) × Spans level.now 0 k w
-        × Pairs rows.now cols.now w (row level.now k) seed (row tails.new k) (row heads.new k))
-        × (result ≡ true → (w : ℕ) × Spans level.now 0 count w × ((x : ℕ) → x < n → Along rows.now w seed x × Along cols.now w seed x)) }
+// The levels below each level are one group, with the seed as its pivot: `ends` gets the ends of its pairs in each inner level. Answers whether the seed leads to
+// all stations, and all lead to it.
+fn rise(net: &Network, seed: usize, found: &Levels, ends: &mut [Ends; 32]) -> bool
+    requires { (seed < 64) × (2 ≤ found.now.count) × (found.now.count ≤ 33) × (row found.now.level 0 ≡ 2 ^ seed) }
+    ensures { ((k : ℕ) → 1 ≤ k → k + 1 < found.now.count → (w : ℕ) × Spans found.now.level 0 k w
+        × Pairs net.now.rows net.now.cols w (row found.now.level k) seed (ends_at ends.new k).tails (ends_at ends.new k).heads)
+        × (result ≡ true → (w : ℕ) × Spans found.now.level 0 found.now.count w
+        × ((x : ℕ) → x < net.now.n → Along net.now.rows w seed x × Along net.now.cols w seed x)) }
 {
-    let mut seen = 1u64 << seed;
-    let mut ahead = led_from(rows, 0, seen);
-    let mut back = led_from(cols, 0, seen);
-    let mut k = 1usize;
-    while k + 1 < count {
-        let s = level[k];
-        let ends = ends_in(s, ahead, back);
-        tails[k] = ends.tails;
-        heads[k] = ends.heads;
+    let mut seen = bitset::singleton(seed);
+    let mut ahead = led_from(&net.rows, 0, seen);
+    let mut back = led_from(&net.cols, 0, seen);
+    for k in 1..found.count - 1 {
+        let s = found.level[k];
+        ends[k] = ends_in(s, ahead, back);
         seen |= s;
-        ahead = led_on(rows, seen, ahead, s);
-        back = led_on(cols, seen, back, s);
-        k += 1;
+        ahead = led_on(&net.rows, seen, ahead, s);
+        back = led_on(&net.cols, seen, back, s);
     }
-    let s = level[k];
-    if leads_to_all(rows, n, seen, s, ahead) {
-        return leads_to_all(cols, n, seen, s, back);
-    }
-    false
+    let s = found.level[found.count - 1];
+    leads_to_all(&net.rows, net.n, seen, s, ahead) && leads_to_all(&net.cols, net.n, seen, s, back)
 }
 
-// The ends of the pairs of s by way of each of the q groups.
-fn ends_above(s: u64, q: usize, groups: &[u64; 160], out: &mut [u64; 64], into: &mut [u64; 64])
-    requires { (q ≤ 32) × (length out.old ≡ 64) × (length into.old ≡ 64) }
-    ensures { (length out.new ≡ 64) × (length into.new ≡ 64)
-        × ((g : ℕ) → g < q → Part (row out.new g) s × Part (row into.new g) s)
-        × ((g : ℕ) → g < q → (t c b : List ℕ) (room : ℕ) (G : GroupIn t c b room (group_at groups.now g))
-        → Pairs t c room s G.pivot (row out.new g) (row into.new g)) }
+// The stations of a level that each of the groups above it, and after them the levels below, can take, out and in.
+// By hand: two arrays of words, and not one of `Ends`, since `matching::assign` takes an array of words and how many of them count.
+#[derive(Drop)]
+struct Fits {
+    out: [u64; 64],
+    into: [u64; 64],
+}
+
+// The ends of the pairs of s by way of each of the groups.
+fn ends_above(s: u64, groups: &Groups, fits: &mut Fits)
+    ensures { (length fits.new.out ≡ 64) × (length fits.new.into ≡ 64)
+        × ((g : ℕ) → g < groups.now.count → Part (row fits.new.out g) s × Part (row fits.new.into g) s)
+        × ((g : ℕ) → g < groups.now.count → (t c b : List ℕ) (room : ℕ) (G : GroupIn t c b room (group_at groups.now.groups g))
+        → Pairs t c room s G.pivot (row fits.new.out g) (row fits.new.into g)) }
 {
-    let mut g = 0usize;
-    while g < q {
-        let group = group_at(groups, g);
+    for g in 0..groups.count {
+        let group = groups.groups[g];
         let ends = ends_in(s, group.ahead, group.back);
-        out[g] = ends.tails;
-        into[g] = ends.heads;
-        g += 1;
+        fits.out[g] = ends.tails;
+        fits.into[g] = ends.heads;
     }
 }
 
@@ -119,95 +103,57 @@ fn settles(fits: &[u64; 64], p: usize, s: u64, words: &[u64; 64]) -> bool
     requires { (p ≤ 64) × Inside fits.now p s }
     ensures { result ≡ true → Settles fits.now p s words.now }
 {
-    let found = matching::assign(fits, p, s);
-    if found.spare == s {
-        return found.complete;
-    }
-    found.complete & (bitset::union_of_rows(words, s) & s & !found.spare == 0)
+    let Some(spare) = matching::assign(fits, p, s) else {
+        return false;
+    };
+    spare == s || bitset::union_of_rows(words, s) & s & !spare == 0
 }
 
-// Does the level s leave the table, by the pairs of the q groups above it and by those of the levels below, whose ends are `below`?
-fn leaves_level(
-    rows: &[u64; 64],
-    cols: &[u64; 64],
-    s: u64,
-    q: usize,
-    groups: &[u64; 160],
-    below: Ends,
-    out: &mut [u64; 64],
-    into: &mut [u64; 64],
-) -> bool
-    requires { (q ≤ 32) × (length out.old ≡ 64) × (length into.old ≡ 64) × Part below.tails s × Part below.heads s }
-    ensures { (length out.new ≡ 64) × (length into.new ≡ 64)
-        × ((g : ℕ) → g < q → (t c b : List ℕ) (room : ℕ) (G : GroupIn t c b room (group_at groups.now g))
-        → Pairs t c room s G.pivot (row out.new g) (row into.new g))
-        × (row out.new q ≡ below.tails) × (row into.new q ≡ below.heads)
-        × (result ≡ true → Settles out.new (q + 1) s cols.now × Settles into.new (q + 1) s rows.now) }
+// Does the level s leave the table, by the pairs of the groups above it and by those of the levels below, whose ends are `below`?
+fn leaves_level(net: &Network, s: u64, groups: &Groups, below: Ends, fits: &mut Fits) -> bool
+    requires { Part below.tails s × Part below.heads s }
+    ensures { ((g : ℕ) → g < groups.now.count → (t c b : List ℕ) (room : ℕ) (G : GroupIn t c b room (group_at groups.now.groups g))
+        → Pairs t c room s G.pivot (row fits.new.out g) (row fits.new.into g))
+        × (row fits.new.out groups.now.count ≡ below.tails) × (row fits.new.into groups.now.count ≡ below.heads)
+        × (result ≡ true → Settles fits.new.out (groups.now.count + 1) s net.now.cols × Settles fits.new.into (groups.now.count + 1) s net.now.rows) }
 {
-    ends_above(s, q, groups, out, into);
-    out[q] = below.tails;
-    into[q] = below.heads;
-    if settles(out, q + 1, s, cols) {
-        return settles(into, q + 1, s, rows);
-    }
-    false
+    ends_above(s, groups, fits);
+    let q = groups.count;
+    fits.out[q] = below.tails;
+    fits.into[q] = below.heads;
+    settles(&fits.out, q + 1, s, &net.cols) && settles(&fits.into, q + 1, s, &net.rows)
 }
 
 // Yes is said only where no level between the first and the last strikes a leg or says none, those over the limit aside. The levels are those of the seed and have
 // all stations.
-pub fn is_idle(
-    rows: &[u64; 64],
-    cols: &[u64; 64],
-    nbr: &[u64; 64],
-    n: usize,
-    limit: usize,
-    seed: usize,
-    level: &[u64; 64],
-    count: usize,
-) -> bool
-    requires { (seed < n) × Columned n rows.now cols.now × Linked n rows.now nbr.now × (take count level.now ≡ levels n rows.now seed)
-        × (unreached n (levels n rows.now seed) ≡ 0) × (count ≤ 64) × (length level.now ≡ 64) }
-    ensures { result ≡ true → Idle n rows.now limit (inner (levels n rows.now seed)) }
+pub fn is_idle(net: &Network, nbr: &[u64; 64], limit: usize, seed: usize, found: &Levels) -> bool
+    requires { (seed < net.now.n) × Linked net.now.n net.now.rows nbr.now × (take found.now.count found.now.level ≡ levels net.now.n net.now.rows seed)
+        × (unreached net.now.n (levels net.now.n net.now.rows seed) ≡ 0) × (found.now.count ≤ 64) }
+    ensures { result ≡ true → Idle net.now.n net.now.rows limit (inner (levels net.now.n net.now.rows seed)) }
 {
-    if count < 2 {
-        return false;
-    }
     // An inner level of one station gives none. With two in each there are no more levels than these.
-    if 33 < count {
+    if found.count < 2 || 33 < found.count {
         return false;
     }
-    let mut tails = [0u64; 32];
-    let mut heads = [0u64; 32];
-    if !rise(rows, cols, n, seed, level, count, &mut tails, &mut heads) {
+    let mut ends = [Ends { tails: 0, heads: 0 }; 32];
+    if !rise(net, seed, found, &mut ends) {
         return false;
     }
-    let mut groups = [0u64; 160];
-    let mut out = [0u64; 64];
-    let mut into = [0u64; 64];
-    let mut q = 0usize;
-    let mut room = 0u64;
-    let mut edge = 0u64;
-    let mut k = count - 1;
-    while 1 < k {
-        let above = level[k];
-        room |= above;
-        let found = regroup(rows, cols, nbr, room, above, edge, q, &mut groups);
-        let missed = found.left != 0;
+    let ways = Ways { net, nbr };
+    let mut groups = Groups::none();
+    let mut fits = Fits {
+        out: [0; 64],
+        into: [0; 64],
+    };
+    for k in (1..found.count - 1).rev() {
+        groups.regroup(ways, found.level[k + 1]);
+        let missed = groups.left != 0;
         if missed {
             return false;
         }
-        q = found.count;
-        edge = above;
-        k -= 1;
-        let s = level[k];
-        let below = Ends {
-            tails: tails[k],
-            heads: heads[k],
-        };
-        if u64::count_ones(s) as usize <= limit {
-            if !leaves_level(rows, cols, s, q, &groups, below, &mut out, &mut into) {
-                return false;
-            }
+        let s = found.level[k];
+        if s.count_ones() as usize <= limit && !leaves_level(net, s, &groups, ends[k], &mut fits) {
+            return false;
         }
     }
     true

@@ -2,24 +2,10 @@
 // Inside, `free` has the stations without a component, and `owner` names the component at each other station.
 #![tactic(auto)]
 
-ghost use Rattle.std.specs.Prelude.{◌≡◌, ℕ, ◌+◌, ◌<◌, ◌≤◌, length};
+ghost use Rattle.std.specs.Prelude.{◌≡◌, ℕ, ◌+◌, ◌<◌, ◌≤◌, is_some, unwrap_or};
 ghost use Rattle.bitset.specs.Upto.{row};
 ghost use Rattle.matching.specs.Matching.{In, Out, Inside, Exact};
 ghost use Rattle.matching.specs.inner.Paths.{Matched, Reached, Augmenting, Extended};
-
-// Whether there is an assignment, and the stations that some assignment leaves out.
-#[derive(Clone, Copy)]
-pub struct Assigned {
-    pub complete: bool,
-    pub spare: u64,
-}
-
-// Whether one component more is matched, and the stations that are then free.
-#[derive(Clone, Copy)]
-struct Extension {
-    ok: bool,
-    free: u64,
-}
 
 // The stations from which an alternating path leads to a free one. For each, `via` gets the station to which its component can move.
 // A station that is found can let others in, so the rest are then tried anew.
@@ -30,11 +16,12 @@ fn reachable(
     free: u64,
     via: &mut [u8; 64],
 ) -> u64
-    requires { (length via.old ≡ 64) × ((s : ℕ) → In free s → In stations s) × ((s : ℕ) → In stations s → Out free s → row owner.now s < 64) }
+    requires { ((s : ℕ) → In free s → In stations s) × ((s : ℕ) → In stations s → Out free s → row owner.now s < 64) }
     ensures { Reached fits.now owner.now stations free result via.new }
 {
     let mut reach = free;
     let mut rest = stations & !free;
+    // By hand: what is found puts stations back into `rest`.
     while rest != 0 {
         let s = bitset::lowest(rest) as usize;
         let hit = fits[owner[s] as usize] & reach;
@@ -79,7 +66,8 @@ fn augment(
     free & !bitset::singleton(s)
 }
 
-// Matches the component n too: with a free station that can take it, and otherwise along an augmenting path.
+// Matches the component n too: with a free station that can take it, and otherwise along an augmenting path. The result is the stations that are then free.
+// By hand: `owner` and `free` make no struct with a ghost field, since `Matched` has the assignment in it, and a ghost field takes a fact with one proof alone.
 fn extend(
     fits: &[u64; 64],
     owner: &mut [u8; 64],
@@ -87,23 +75,20 @@ fn extend(
     n: usize,
     stations: u64,
     free: u64,
-) -> Extension
-    requires { (n < 64) × (length via.old ≡ 64) × Inside fits.now (n + 1) stations × Matched fits.now owner.old n stations free }
-    ensures { Extended fits.now owner.new via.new n stations result.ok result.free }
+) -> Option<u64>
+    requires { (n < 64) × Inside fits.now (n + 1) stations × Matched fits.now owner.old n stations free }
+    ensures { Extended fits.now owner.new via.new n stations result }
 {
     let direct = fits[n] & free;
     if direct != 0 {
         let s = bitset::lowest(direct) as usize;
         owner[s] = n as u8;
-        return Extension {
-            ok: true,
-            free: free & !bitset::singleton(s),
-        };
+        return Some(free & !bitset::singleton(s));
     }
     let reach = reachable(fits, owner, stations, free, via);
     let hit = fits[n] & reach;
     if hit == 0 {
-        return Extension { ok: false, free };
+        return None;
     }
     let left = augment(
         fits,
@@ -115,35 +100,21 @@ fn extend(
         reach,
         bitset::lowest(hit) as usize,
     );
-    Extension {
-        ok: true,
-        free: left,
-    }
+    Some(left)
 }
 
-// Whether the components below p can have stations of their own, each one of those in its word of `fits`, and which stations are then spare.
-pub fn assign(fits: &[u64; 64], p: usize, stations: u64) -> Assigned
+// By hand: an array and how many of its words count, no slice: its callers' promises (`Side`, `Settles`) speak of the array, and would have to speak of `take p`.
+// Whether the components below p can have stations of their own, each one of those in its word of `fits`: the stations that some assignment leaves out.
+pub fn assign(fits: &[u64; 64], p: usize, stations: u64) -> Option<u64>
     requires { (p ≤ 64) × Inside fits.now p stations }
-    ensures { Exact fits.now p stations result.complete result.spare }
+    ensures { Exact fits.now p stations (is_some result) (unwrap_or result 0) }
 {
     let mut owner = [0u8; 64];
     let mut via = [0u8; 64];
     let mut free = stations;
-    let mut n = 0;
-    while n < p {
-        let r = extend(fits, &mut owner, &mut via, n, stations, free);
-        if !r.ok {
-            return Assigned {
-                complete: false,
-                spare: 0,
-            };
-        }
-        free = r.free;
-        n += 1;
+    for n in 0..p {
+        free = extend(fits, &mut owner, &mut via, n, stations, free)?;
     }
     let spare = reachable(fits, &owner, stations, free, &mut via);
-    Assigned {
-        complete: true,
-        spare,
-    }
+    Some(spare)
 }

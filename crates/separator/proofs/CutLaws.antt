@@ -15,6 +15,7 @@ use lib.Seq.{ext_get_or, get_or-set_same, get_or-set_other}
 use borrow.Author.Tests.{eqb-true, eqb-false, not-true}
 use Rattle.bitset.specs.Sets.{has, set_of}
 use Rattle.bitset.specs.Upto.{row}
+use Rattle.bitset.specs.inner.Members.{Parts}
 use Rattle.bitset.proofs.BoolLaws.{iff, cases, and_intro, and_l, and_r, cond_true, cond_false, cond_elim, taut2, taut3}
 use Rattle.bitset.proofs.HasLaws.{has_zero, has_and, has_or, has_not, ext}
 use Rattle.bitset.proofs.SetLaws.{has_set_of, set_of_lt, set_of_above, eq_set_of, has_diff}
@@ -78,10 +79,10 @@ module _ (s out into : ℕ) (before : List ℕ) where
   word_of : ℕ → Bool → ℕ
   word_of k b = cond b (row before k) (cut_row s out into k (row before k))
 
-  pub cutting_start : s < 2 ^ 64 → length before ≡ 64 → Cutting s out into before s before
+  pub cutting_start : {rest : ℕ} → rest ≡ s → s < 2 ^ 64 → length before ≡ 64 → Cutting s out into before rest before
   unfolding cut_row
-  cutting_start h len =
-      record {
+  cutting_start e h len =
+      rw e record {
         rest_fits = h;
         within = λ k e. e;
         size = len;
@@ -90,11 +91,11 @@ module _ (s out into : ℕ) (before : List ℕ) where
             cond_elim (λ v. w ≡ v) (has s k) w (cut_row s out into k w) (λ e. refl) (λ e. sym (cond_false _ w e));
       }
 
-  pub cutting_turn : {rest : ℕ} {now : List ℕ} (w : ℕ) → Cutting s out into before rest now → 0 < rest
+  cutting_least : {rest : ℕ} {now : List ℕ} (w : ℕ) → Cutting s out into before rest now → 0 < rest
       → w ≡ cut_row s out into (count_trailing_zeros 64 rest) (row now (count_trailing_zeros 64 rest))
       → Cutting s out into before (bit_and rest (rest - 1)) (set now (count_trailing_zeros 64 rest) w)
   unfolding word_of
-  cutting_turn {rest} {now} w C p e =
+  cutting_least {rest} {now} w C p e =
       record {
         rest_fits = omega (arith, C.rest_fits, and_le_l rest (rest - 1));
         within = λ k q. C.within k (and_l (has rest k) (not (eqb k i)) (sym (has_clear 64 rest k p C.rest_fits) ∙ q));
@@ -119,6 +120,11 @@ module _ (s out into : ℕ) (before : List ℕ) where
       other k l q =
           get_or-set_other now i k w 0 (eqb-false k i q) ∙ C.word k l
           ∙ ap (word_of k) (sym (has_clear 64 rest k p C.rest_fits ∙ ap (λ (b : Bool). has rest k && not b) q ∙ and-true (has rest k)))
+
+  pub cutting_turn : {rest i others : ℕ} {now : List ℕ} (w : ℕ) → Cutting s out into before rest now → Parts rest i others
+      → w ≡ cut_row s out into i (row now i) → Cutting s out into before others (set now i w)
+  cutting_turn {now = now} w C P e =
+      rw (P.others, P.least) (cutting_least w C P.nonempty (e ∙ ap (λ (k : ℕ). cut_row s out into k (row now k)) P.least))
 
   pub cutting_end : {rest : ℕ} {now : List ℕ} → Cutting s out into before rest now → rest ≡ 0 → Cut s out into before now
   unfolding word_of

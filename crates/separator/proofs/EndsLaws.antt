@@ -10,6 +10,7 @@ use lib.Bits.{bit_and, bit_or, and_le_l, and_le_r, or_lt}
 use lib.Count.{count_trailing_zeros}
 use borrow.Author.Tests.{eqb-true, ltb-true, lt-ltb}
 use Rattle.bitset.specs.Sets.{has, set_of, any, meet}
+use Rattle.bitset.specs.inner.Members.{Parts}
 use Rattle.bitset.proofs.BoolLaws.{iff, eqb_swap, and_intro, and_l, and_r, taut3}
 use Rattle.bitset.proofs.HasLaws.{has_zero, has_and, has_or}
 use Rattle.bitset.proofs.SetLaws.{has_set_of, eq_set_of, word_lt, word_has}
@@ -85,7 +86,13 @@ module _ (t : List ℕ) (s : ℕ) (cs : List ℕ) where
       on : ℕ → Bool
       on j = has s j && stands 64 t cs i j m
 
--- ---- the walk over the stations of s, the least first: `on i j` says that the mark stands on the pair (i, j), as it does for stations i of s alone
+-- ---- the walk over the stations of s, the least first
+
+-- the least member is a member
+pub least_in : {w k v : ℕ} → w < 2 ^ 64 → Parts w k v → has w k ≡ true
+least_in {w} h P = ap (has w) P.least ∙ (trailing_least 64 w P.nonempty h).member
+
+-- `on i j` says that the mark stands on the pair (i, j), as it does for stations i of s alone
 
 pub record Gathering (on : ℕ → ℕ → Bool) (s rest tails heads : ℕ) : Type 0 where
   pub rest_fits : rest < 2 ^ 64
@@ -96,9 +103,9 @@ pub record Gathering (on : ℕ → ℕ → Bool) (s rest tails heads : ℕ) : Ty
   pub head : (k : ℕ) → k < 64 → has heads k || any 64 (λ i. has rest i && on i k) ≡ any 64 (λ i. has s i && on i k)
 
 module _ (on : ℕ → ℕ → Bool) (s : ℕ) where
-  pub gather_start : s < 2 ^ 64 → Gathering on s s 0 0
-  gather_start h =
-      record {
+  pub gather_start : {rest : ℕ} → rest ≡ s → s < 2 ^ 64 → Gathering on s rest 0 0
+  gather_start e h =
+      rw e record {
         rest_fits = h;
         tails_fit = omega arith;
         heads_fit = omega arith;
@@ -108,11 +115,11 @@ module _ (on : ℕ → ℕ → Bool) (s : ℕ) where
       }
 
   -- a turn at the least station of the rest
-  pub gather_turn : {rest tails heads : ℕ} (more tails' : ℕ) → Gathering on s rest tails heads → 0 < rest
+  gather_least : {rest tails heads : ℕ} (more tails' : ℕ) → Gathering on s rest tails heads → 0 < rest
       → more ≡ set_of 64 (on (count_trailing_zeros 64 rest))
       → tails' ≡ set_of 64 (λ k. has tails k || eqb k (count_trailing_zeros 64 rest) && ltb 0 more)
       → Gathering on s (bit_and rest (rest - 1)) tails' (bit_or heads more)
-  gather_turn {rest} {tails} {heads} more tails' v p hm ht =
+  gather_least {rest} {tails} {heads} more tails' v p hm ht =
       record {
         rest_fits = omega (arith, v.rest_fits, and_le_l rest (rest - 1));
         tails_fit = word_lt 64 tailed ht;
@@ -162,6 +169,12 @@ module _ (on : ℕ → ℕ → Bool) (s : ℕ) where
           ∙ or-false (has tails k || any 64 (on k)) ∙ ap (λ (x : Bool). has tails k || x && any 64 (on k)) (sym m)
       step k false q =
           taut3 (λ a b c. (a || false) || b && true && c) (λ a b c. a || b && c) refl (has tails k) (has rest k) (any 64 (on k))
+
+  pub gather_turn : {rest tails heads i others : ℕ} (more tails' : ℕ) → Gathering on s rest tails heads → Parts rest i others
+      → more ≡ set_of 64 (on i) → tails' ≡ set_of 64 (λ k. has tails k || eqb k i && ltb 0 more) → Gathering on s others tails' (bit_or heads more)
+  gather_turn {tails = tails} more tails' v P hm ht =
+      let ends = λ (k : ℕ). set_of 64 (λ j. has tails j || eqb j k && ltb 0 more) in
+      rw P.others (gather_least more tails' v P.nonempty (hm ∙ ap (λ (k : ℕ). set_of 64 (on k)) P.least) (ht ∙ ap ends P.least))
 
   pub gather_end : {rest tails heads : ℕ} → ((i j : ℕ) → on i j ≡ true → has s i ≡ true) → Gathering on s rest tails heads → rest ≡ 0
       → EndsOf on tails heads

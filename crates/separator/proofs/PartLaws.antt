@@ -8,7 +8,7 @@ use native.Mathlib.Nat.{sub-zero}
 use native.Mathlib.Omega.{arith}
 use lib.Bits.{bit_and, and_le_l}
 use lib.Count.{ones, ones-le, count_trailing_zeros}
-use lib.Dec.{eqb}
+use lib.Dec.{eqb, ltb}
 use lib.ListN.{length, set, replicate}
 use lib.Pow.{pow-lt}
 use borrow.Author.Tests.{ne_eqb, not-true}
@@ -17,16 +17,16 @@ use Rattle.bitset.specs.inner.Members.{Within, Least}
 use Rattle.bitset.proofs.BoolLaws.{not_both, is_false, and_intro, and_l, and_r, cond_false, cond_elim}
 use Rattle.bitset.proofs.QuantLaws.{below?}
 use Rattle.bitset.proofs.HasLaws.{member_below}
-use Rattle.bitset.proofs.SetLaws.{set_of_lt, has_diff, has_self}
+use Rattle.bitset.proofs.SetLaws.{set_of_lt, has_diff, has_self, diff_set_of}
 use Rattle.bitset.proofs.OnesLaws.{ones_zero, ones_pos, ones_less, pow_within}
 use Rattle.bitset.proofs.LeastLaws.{trailing_least}
-use Rattle.bitset.proofs.MachineLaws.{wide, minus_of, trailing_first}
+use Rattle.bitset.proofs.MachineLaws.{wide, minus_of, trailing_first, full_without}
 use Rattle.circuit.specs.Legs.{leg, neighbours}
 use Rattle.separator.specs.Components.{grow, components_from, components}
-use Rattle.separator.specs.inner.Reach.{Linked, Listed}
+use Rattle.separator.specs.inner.Reach.{Linked, Mutual, Listed}
 use Rattle.separator.proofs.ComponentLaws.{Closed, grown_closed, grow_keeps}
 use Rattle.separator.proofs.GrowLaws.{grow_lt, grow_rest, grow_width}
-use Rattle.separator.proofs.NeighbourLaws.{linked_elim, linked_intro}
+use Rattle.separator.proofs.NeighbourLaws.{linked_elim, linked_intro, linked_mutual}
 use Rattle.separator.proofs.ArrayLaws.{Writing, writing_start, writing_turn, writing_end}
 
 -- ---- one component: grown inside a room from the least station of the rest
@@ -212,6 +212,14 @@ components_linked {n} {t} {nbr} s d =
     let h = set_of_lt n (λ k. not (has s k)) in
     parts_width n 64 (neighbours t) (leg nbr) room d.most (linked_elim d) (linked_intro d) n 64 room h
     (ones-le n room h) (omega (arith, ones-le n room h, d.most))
+
+-- `components_of` lists them, given the stations outside s
+pub listed : {n s all count : ℕ} {t nbr parts : List ℕ} → Linked n t nbr → s < 2 ^ n → all < 2 ^ 64 → all ≡ set_of 64 (λ j. ltb j n)
+    → (Mutual nbr → let out = bit_and all ((2 ^ 64 - 1) - s) in Listed (components_from 64 64 (leg nbr) out out) parts count)
+    → Listed (components n t s) parts count
+listed {n} {s} {all} {count} {t} {nbr} {parts} d low fits is l =
+    let out = full_without d.most s all _ is (diff_set_of 64 all s fits (wide d.most low)) in
+    subst (λ (c : List ℕ). Listed c parts count) (ap (λ (w : ℕ). components_from 64 64 (leg nbr) w w) out ∙ components_linked s d) (l (linked_mutual d))
 
 -- there are at most n components
 pub components_most : (n : ℕ) (t : List ℕ) (s : ℕ) → length (components n t s) ≤ n

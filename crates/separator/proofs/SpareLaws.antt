@@ -1,12 +1,12 @@
 -- What the words of a level's two sides say: the choices of the definition, and so the spare stations. Assumes nothing.
-use mathlib.Core.Path.{◌≡◌, sym, ap, ap₂, ◌∙◌}
+use mathlib.Core.Path.{◌≡◌, refl, sym, ap, ap₂, ◌∙◌}
 use mathlib.Core.Logic.{⊎_elim}
-use mathlib.Core.Bool.{Bool, true, false, not, ◌&&◌}
+use mathlib.Core.Bool.{Bool, true, false, not, ◌&&◌, and-false}
 use mathlib.Core.List.{List}
 use Prim.Native.Nat.{ℕ, suc, ◌^◌, ◌≤◌, ◌<◌}
 use native.Mathlib.Nat.{lt_of_lt_of_le}
 use native.Mathlib.Omega.{arith}
-use borrow.Author.Tests.{not-false}
+use Rattle.std.specs.Prelude.{Some, None}
 use Rattle.bitset.specs.Sets.{has, any}
 use Rattle.bitset.proofs.BoolLaws.{iff, cases, and_intro, and_l, and_r}
 use Rattle.bitset.proofs.SetLaws.{set_of_elim, word_has}
@@ -124,37 +124,50 @@ module _ (n : ℕ) (t : List ℕ) (most : n ≤ 64) (clean : stray n t ≡ false
   bares : ℕ → ℕ → Bool
   bares i j = choice n s d.last (takes i j (out_may d)) && choice n s d.last (takes j i (in_may d))
 
-  pub spares_of : (r : Spares) (outs ins : List ℕ) (tails heads : ℕ) (leaving entering : Bool)
-      → Side (marked 64 t s parts) p outs tails → Settled outs p s tails leaving r.out
-      → Side (λ x y. marked 64 t s parts y x) p ins heads → Settled ins p s heads entering r.into
-      → r.none ≡ not (leaving && entering) → SparesOf n t s r
-  unfolding passable struck bares
-  spares_of r outs ins tails heads leaving entering So To Si Ti none =
-      record {
-        verdict = none ∙ ap not (sym (ap₂ (λ (x y : Bool). x && y) out.0 into.0));
-        strikes = λ q i j li lj e. ⊎_elim
-            (λ h. ap (λ (x : Bool). has s i && has s j && not x) (inner (not-false (leaving && entering) (sym none ∙ q)) i j li lj e h))
-            (λ h. ap (λ (x : Bool). x && not (bares i j)) h ∙ sym (ap (λ (x : Bool). x && not (has r.out i && has r.into j)) h))
-            (cases (has s i && has s j));
-      }
-    where
-      out : SideSays n s d.last (out_may d) leaving r.out
-      out =
-          side_says n s d.last (out_may d) (marked 64 t s parts) most (λ k. member_below n s k low) agree
-          (marked_pair 64 t s parts) outs tails (side_at So last) leaving r.out (settled_at To last)
+  module _ (outs ins : List ℕ) (tails heads : ℕ) (So : Side (marked 64 t s parts) p outs tails) (Si : Side (λ x y. marked 64 t s parts y x) p ins heads) where
+    out_says : (complete : Bool) (spare : ℕ) → Settled outs p s tails complete spare → SideSays n s d.last (out_may d) complete spare
+    out_says complete spare To =
+        side_says n s d.last (out_may d) (marked 64 t s parts) most (λ k. member_below n s k low) agree
+        (marked_pair 64 t s parts) outs tails (side_at So last) complete spare (settled_at To last)
 
-      into : SideSays n s d.last (in_may d) entering r.into
-      into =
-          side_says n s d.last (in_may d) (λ x y. marked 64 t s parts y x) most (λ k. member_below n s k low) (λ x y m lx ly. agree y x m ly lx)
-          (λ x y m e. let f = marked_pair 64 t s parts y x m e in (f.1, f.0)) ins heads (side_at Si last) entering r.into (settled_at Ti last)
+    in_says : (complete : Bool) (spare : ℕ) → Settled ins p s heads complete spare → SideSays n s d.last (in_may d) complete spare
+    in_says complete spare Ti =
+        side_says n s d.last (in_may d) (λ x y. marked 64 t s parts y x) most (λ k. member_below n s k low) (λ x y m lx ly. agree y x m ly lx)
+        (λ x y m e. let f = marked_pair 64 t s parts y x m e in (f.1, f.0)) ins heads (side_at Si last) complete spare (settled_at Ti last)
 
-      -- a leg inside s
-      inner : leaving && entering ≡ true → (i j : ℕ) → i < n → j < n → leg t i j ≡ true → has s i && has s j ≡ true
-          → bares i j ≡ has r.out i && has r.into j
-      inner b i j li lj e h =
-          let hi : has s i ≡ true = and_l (has s i) (has s j) h in
-          let hj : has s j ≡ true = and_r (has s i) (has s j) h in
-          let m : marks d i j 0 ≡ true = marks_bare n t most clean s p parts L i j li lj e hi hj in
-          ap₂ (λ (x y : Bool). x && y)
-          (out.1 (and_l leaving entering b) i j li hi lj ∙ ap (λ (x : Bool). x && has r.out i) m)
-          (into.1 (and_r leaving entering b) j i lj hj li ∙ ap (λ (x : Bool). x && has r.into j) m)
+    -- a side without a choice: the level allows nothing
+    pub none_out : {spare : ℕ} → Settled outs p s tails false spare → SparesOf n t s None
+    unfolding passable
+    none_out {spare} To = record { verdict = ap (λ (x : Bool). x && choice n s d.last (in_may d)) (sym (out_says false spare To).0); strikes = tt }
+
+    pub none_in : {spare : ℕ} → Settled ins p s heads false spare → SparesOf n t s None
+    unfolding passable
+    none_in {spare} Ti =
+        record { verdict = sym (and-false _) ∙ ap (λ (x : Bool). choice n s d.last (out_may d) && x) (sym (in_says false spare Ti).0); strikes = tt }
+
+    pub spares_of : (q : Spares) → Settled outs p s tails true q.out → Settled ins p s heads true q.into → SparesOf n t s (Some q)
+    unfolding passable struck bares
+    spares_of q To Ti =
+        record {
+          verdict = sym (ap₂ (λ (x y : Bool). x && y) out.0 into.0);
+          strikes = λ i j li lj e. ⊎_elim
+              (λ h. ap (λ (x : Bool). has s i && has s j && not x) (inner i j li lj e h))
+              (λ h. ap (λ (x : Bool). x && not (bares i j)) h ∙ sym (ap (λ (x : Bool). x && not (has q.out i && has q.into j)) h))
+              (cases (has s i && has s j));
+        }
+      where
+        out : SideSays n s d.last (out_may d) true q.out
+        out = out_says true q.out To
+
+        into : SideSays n s d.last (in_may d) true q.into
+        into = in_says true q.into Ti
+
+        -- a leg inside s
+        inner : (i j : ℕ) → i < n → j < n → leg t i j ≡ true → has s i && has s j ≡ true → bares i j ≡ has q.out i && has q.into j
+        inner i j li lj e h =
+            let hi : has s i ≡ true = and_l (has s i) (has s j) h in
+            let hj : has s j ≡ true = and_r (has s i) (has s j) h in
+            let m : marks d i j 0 ≡ true = marks_bare n t most clean s p parts L i j li lj e hi hj in
+            ap₂ (λ (x y : Bool). x && y)
+            (out.1 refl i j li hi lj ∙ ap (λ (x : Bool). x && has q.out i) m)
+            (into.1 refl j i lj hj li ∙ ap (λ (x : Bool). x && has q.into j) m)

@@ -10,6 +10,7 @@ ghost use Rattle.separator.specs.Components.{grow, components_from};
 ghost use Rattle.separator.specs.inner.Reach.{Linked, Mutual, Listed, LevelsOf, LedFrom};
 
 // Level k stands at `level[k]`, for k below `count`; the other words are 0. The stations in no level are in `unreached`.
+// By hand: an array with its length beside, since there is no heap.
 #[derive(Clone, Copy)]
 pub struct Levels {
     pub level: [u64; 64],
@@ -25,15 +26,14 @@ pub struct Led {
 }
 
 // Gathers the neighbours: into the word of each station those with a leg to or from it. Words beyond n are 0.
+// By hand: takes no `Network`, since the promise is for any square table, one with words beyond n or self legs too.
 pub fn neighbours(rows: &[u64; 64], cols: &[u64; 64], n: usize, nbr: &mut [u64; 64])
     requires { (n ≤ 64) × Square n rows.now × (cols.now ≡ columns n rows.now) }
     ensures { nbr.new ≡ table_of n (neighbours rows.now) }
 {
     *nbr = [0u64; 64];
-    let mut i = 0usize;
-    while i < n {
+    for i in 0..n {
         nbr[i] = rows[i] | cols[i];
-        i += 1;
     }
 }
 
@@ -44,6 +44,7 @@ fn neighbourhood(nbr: &[u64; 64], set: u64) -> u64
     bitset::union_of_rows(nbr, set)
 }
 
+// By hand, here and below: no index, the walk ends where nothing new is met, and what it counts is handed back.
 // The levels from a seed: each is the neighbours of the last one that no level has yet. The stations that none has are unreached.
 pub fn levels_from(nbr: &[u64; 64], n: usize, seed: usize) -> Levels
     requires { (n ≤ 64) × (seed < n) }
@@ -105,6 +106,7 @@ pub fn led_from(words: &[u64; 64], room: u64, start: u64) -> Led
 
 // The connected groups of the stations of `outside`, by the words of their neighbours. They come first in `part`, by rising lowest station, and the other words
 // are 0; answers how many there are. A group is grown in the rest alone, since no leg joins it to one found before.
+// By hand: the array and its length are what `measured_components` hands to C.
 pub fn components_of(nbr: &[u64; 64], outside: u64, part: &mut [u64; 64]) -> usize
     ensures { Mutual nbr.now → Listed (components_from 64 64 (leg nbr.now) outside outside) part.new result }
 {
@@ -112,7 +114,7 @@ pub fn components_of(nbr: &[u64; 64], outside: u64, part: &mut [u64; 64]) -> usi
     let mut count = 0usize;
     let mut rest = outside;
     while rest != 0 {
-        let c = grown(nbr, rest, 1u64 << u64::trailing_zeros(rest));
+        let c = grown(nbr, rest, 1u64 << rest.trailing_zeros());
         part[count] = c;
         count += 1;
         rest &= !c;

@@ -1,11 +1,14 @@
 -- What the idle test knows of the stations outside a level: groups of them, each known by one of its stations, the pivot. All is said of words alone: those of the
 -- rows, of the columns and of the neighbours of a table. Nothing says that a group is whole, so what follows from it is one-sided.
-use Rattle.std.specs.Prelude.{◌≡◌, ◌≢◌, true, false, List, ℕ, ◌+◌, ◌*◌, ◌<◌, ◌≤◌}
+use Rattle.std.specs.Prelude.{◌≡◌, ◌≢◌, true, false, List, ℕ, ◌<◌, ◌≤◌, get_or}
 use Rattle.bitset.specs.Sets.{has}
 use Rattle.bitset.specs.Upto.{row}
 use Rattle.circuit.specs.Legs.{leg}
 use Rattle.matching.specs.Matching.{Assignment, LeftOut}
-use Rattle.idle.specs.declared.groups.Group.{Group}
+use Rattle.idle.specs.declared.group.Group.{Group}
+use Rattle.idle.specs.declared.groups.Groups.{Groups}
+use Rattle.separator.specs.declared.level.Ends.{Ends}
+use Rattle.idle.specs.declared.ways.Ways.{Ways}
 use Rattle.separator.specs.declared.reach.Led.{Led}
 use Rattle.separator.specs.Choice.{Walk}
 
@@ -37,21 +40,22 @@ pub record GroupIn (rows cols nbr : List ℕ) (room : ℕ) (g : Group) : Type 0 
   pub back : Reaches cols room pivot g.back
   pub hangs : (x : ℕ) → has g.part x ≡ true → Along nbr room pivot x
 
--- the group at a place of an array, five words for each
-abbrev pub group_at : List ℕ → ℕ → Group
-group_at words g =
-    record {
-      part = row words (5 * g);
-      ahead = record { all = row words (5 * g + 1); beyond = row words (5 * g + 2) };
-      back = record { all = row words (5 * g + 3); beyond = row words (5 * g + 4) };
-    }
+-- of the rows, the columns and the neighbours of a network
+abbrev pub GroupOf : Ways → ℕ → Group → Type 0
+GroupOf w = GroupIn w.net.now.rows w.net.now.cols w.nbr.now
 
--- the first `count` groups of an array have all stations of `room` but those of `left`
-pub record Grouping (rows cols nbr : List ℕ) (room : ℕ) (words : List ℕ) (count left : ℕ) : Type 0 where
-  pub few : count ≤ 32
-  pub each : (g : ℕ) → g < count → GroupIn rows cols nbr room (group_at words g)
-  pub covers : (x : ℕ) → has room x ≡ true → has left x ≡ false → (g : ℕ) × (g < count) × (has (group_at words g).part x ≡ true)
-  pub inside : Part left room
+-- the group at a place of an array
+abbrev pub group_at : List Group → ℕ → Group
+group_at groups g = get_or groups g (record { part = 0; ahead = record { all = 0; beyond = 0 }; back = record { all = 0; beyond = 0 } })
+
+-- the first `count` groups have all stations of the room but those of `left`
+pub record GroupingIn (rows cols nbr : List ℕ) (g : Groups) : Type 0 where
+  pub each : (k : ℕ) → k < g.count → GroupIn rows cols nbr g.room (group_at g.groups k)
+  pub covers : (x : ℕ) → has g.room x ≡ true → has g.left x ≡ false → (k : ℕ) × (k < g.count) × (has (group_at g.groups k).part x ≡ true)
+  pub inside : Part g.left g.room
+
+abbrev pub Grouping : Ways → Groups → Type 0
+Grouping w = GroupingIn w.net.now.rows w.net.now.cols w.nbr.now
 
 -- x is a station of s that A holds of, and B holds of another one
 abbrev pub Pair : ℕ → (ℕ → Type 0) → (ℕ → Type 0) → ℕ → Type 0
@@ -62,6 +66,10 @@ Pair s A B x = (has s x ≡ true) × A x × ((y : ℕ) × (has s y ≡ true) × 
 pub record Pairs (rows cols : List ℕ) (room s p tails heads : ℕ) : Type 0 where
   pub tail : (x : ℕ) → has tails x ≡ true → Pair s (LedTo cols room p) (LedTo rows room p) x
   pub head : (x : ℕ) → has heads x ≡ true → Pair s (LedTo rows room p) (LedTo cols room p) x
+
+-- the ends at a place of an array
+abbrev pub ends_at : List Ends → ℕ → Ends
+ends_at ends k = get_or ends k (record { tails = 0; heads = 0 })
 
 -- the p components of `fits` can have stations of their own, whichever station of s that is in the word of one of s is left out
 pub record Settles (fits : List ℕ) (p s : ℕ) (words : List ℕ) : Type 0 where

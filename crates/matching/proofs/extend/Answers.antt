@@ -1,5 +1,4 @@
 -- `matching::extend` meets its contract: by `direct`, by `stuck`, and by what `augment` ensures. Assumes nothing.
-use mathlib.Core.Bool.{true≢false, false≢true}
 use Prim.Native.Nat.{◌+◌}
 use native.Mathlib.Omega.{arith}
 use lib.ListN.{set, length-set}
@@ -14,31 +13,24 @@ use Rattle.matching.proofs.extend.Goals as goal
 pub returns-then-direct-ne0 : goal.returns-then-direct-ne0
 returns-then-direct-ne0 c =
     let a = c.args in
-    let m = c.requires.3 in
+    let m = c.requires.2 in
     let s = c.lowest-s.result in
     let l = c.lowest-s.ensures.1 in
     let i = in_and (row a.fits.now a.n) a.free s l.member in
     record {
-      size = c.requires.1;
-      yes = λ _. direct a.fits.now a.owner.now (set a.owner.now s a.n) a.n a.stations a.free s _ m i.0 i.1
+      size = c.told-via;
+      matched = direct a.fits.now a.owner.now (set a.owner.now s a.n) a.n a.stations a.free s _ m i.0 i.1
           (simp length-set m.size) (put_set a.owner.now s a.n (omega (arith, l.below, m.size)))
           (without_one 64 a.free s c.singleton.result c.ranges.free.fits l.below c.singleton.ensures);
-      no = λ e. absurd (true≢false e);
     }
-
-pub reachable-reach-requires : goal.reachable-reach-requires
-reachable-reach-requires c =
-    let m = c.requires.3 in
-    (c.requires.1, m.inside, λ s i o. omega (arith, (m.owned s i o).0, c.requires.0))
 
 pub returns-then-hit-eq0 : goal.returns-then-hit-eq0
 returns-then-hit-eq0 c =
     let a = c.args in
-    let less : Inside a.fits.now a.n a.stations = inside_less a.fits.now a.n (a.n + 1) a.stations (omega arith) c.requires.2 in
+    let less : Inside a.fits.now a.n a.stations = inside_less a.fits.now a.n (a.n + 1) a.stations (omega arith) c.requires.1 in
     record {
       size = c.reachable-reach.ensures.size;
-      yes = λ e. absurd (false≢true e);
-      no = λ _. stuck a.fits.now a.owner.now _ a.n a.stations a.free c.reachable-reach.result less c.requires.3 c.reachable-reach.ensures c.requires.2
+      matched = stuck a.fits.now a.owner.now _ a.n a.stations a.free c.reachable-reach.result less c.requires.2 c.reachable-reach.ensures c.requires.1
           (λ t. and_none (row a.fits.now a.n) c.reachable-reach.result t c.if-hit-eq0.true);
     }
 
@@ -48,7 +40,7 @@ augment-left-requires c =
     let i = in_and (row a.fits.now a.n) c.reachable-reach.result c.lowest.result c.lowest.ensures.1.member in (
       c.requires.0,
       record {
-        matched = c.requires.3;
+        matched = c.requires.2;
         rank = c.reachable-reach.ensures.rank;
         forest = c.reachable-reach.ensures.forest;
         hit = i.0;
@@ -60,6 +52,5 @@ pub returns : goal.returns
 returns c =
     record {
       size = c.reachable-reach.ensures.size;
-      yes = λ _. c.augment-left.ensures;
-      no = λ e. absurd (true≢false e);
+      matched = c.augment-left.ensures;
     }

@@ -2,15 +2,14 @@ use mathlib.Core.Path.{ap, ◌∙◌}
 use Prim.Native.Nat.{ℕ, ◌<◌, ◌-◌, ◌^◌}
 use native.Mathlib.Omega.{arith}
 use lib.ListN.{length-set}
-use lib.Bits.{bit_and, bit_or, and_le_l, and_le_r, or_lt}
+use lib.Bits.{bit_and, bit_or, and_le_l, or_lt}
 use Rattle.bitset.specs.Sets.{has}
-use Rattle.bitset.proofs.BoolLaws.{not_both, is_false}
 use Rattle.bitset.proofs.HasLaws.{has_zero}
 use Rattle.bitset.specs.Upto.{row}
 use Rattle.bitset.proofs.WordLaws.{With, in_and, and_none, in_diff, diff_in, with_one, without_least}
 use Rattle.matching.proofs.PutLaws.{put_set}
 use Rattle.matching.proofs.SearchLaws.{search_start, search_found, search_blocked, grown_less}
-use Rattle.matching.proofs.reachable.Goals.{After-lowest-s, After-singleton-reach}
+use Rattle.matching.proofs.reachable.Goals.{After-singleton-reach}
 use Rattle.matching.proofs.reachable.Goals as goal
 
 pub loop-rest-init : goal.loop-rest-init
@@ -18,26 +17,10 @@ loop-rest-init c =
     let a = c.args in (
       c.ranges.free.fits,
       omega (arith, and_le_l a.stations ((2 ^ 64 - 1) - a.free), c.ranges.stations.fits),
-      c.requires.0,
-      search_start a.fits.now a.stations a.free _ _ _ c.requires.1
+      c.told-via,
+      search_start a.fits.now a.stations a.free _ _ _ c.requires.0
           (λ u. (in_diff 64 a.stations a.free c.ranges.stations.fits c.ranges.free.fits u, diff_in 64 a.stations a.free c.ranges.stations.fits c.ranges.free.fits u)),
     )
-
--- the component at s, which is not free, is below 64
-c_below : (c : After-lowest-s) → row c.args.owner.now c.lowest-s.result < 64
-c_below c = let q = c.loop-rest.invariant.3 in
-    let s = c.lowest-s.result in
-    let o = q.fresh s c.lowest-s.ensures.1.member in
-    c.requires.2 s o.0 (is_false _ (λ f. not_both (q.forest.start s f) o.1))
-
-pub overflow_cast-hit : goal.overflow_cast-hit
-overflow_cast-hit c = omega (arith, c_below (goal.at.overflow_cast-hit c).After-lowest-s)
-
-pub offset_bounds-fits-owner : goal.offset_bounds-fits-owner
-offset_bounds-fits-owner c = omega (arith, c_below (goal.at.offset_bounds-fits-owner c).After-lowest-s)
-
-pub bounds-fits-owner : goal.bounds-fits-owner
-bounds-fits-owner c = c_below (goal.at.bounds-fits-owner c).After-lowest-s
 
 -- s joins
 joined : (c : After-singleton-reach) → let v = c.loop-rest in With v.reach c.lowest-s.result (bit_or v.reach c.singleton-reach.result)
@@ -70,11 +53,6 @@ loop-rest-preserved-then-hit-ne0 c =
           t w _ _ b.0 b.1 (joined c) (λ u. (in_diff 64 a.stations w hs (more_fits c) u, diff_in 64 a.stations w hs (more_fits c) u))
           (put_set v.via s t (omega (arith, c.lowest-s.ensures.1.below, v.invariant.2))),
     )
-
-pub loop-rest-smaller : goal.loop-rest-smaller
-loop-rest-smaller c =
-    let r = c.loop-rest.rest in
-    omega (arith, and_le_r r (r - 1), c.loop-rest-test.true)
 
 pub loop-rest-preserved : goal.loop-rest-preserved
 loop-rest-preserved c =

@@ -1,5 +1,5 @@
 -- What the inner functions promise of a matching that grows, and of the alternating paths along which it does. Assumes nothing.
-use Rattle.std.specs.Prelude.{◌≡◌, ◌⊎◌, Bool, true, false, List, ℕ, ◌+◌, ◌<◌, length}
+use Rattle.std.specs.Prelude.{◌≡◌, ◌⊎◌, List, ℕ, ◌+◌, ◌<◌, length, Option, MatchOption}
 use Rattle.bitset.specs.Upto.{row}
 use Rattle.matching.specs.Matching.{In, Out, Assigns, Assignment}
 
@@ -43,8 +43,7 @@ pub record Augmenting (fits owner : List ℕ) (n stations free reach : ℕ) (via
   pub hit : In (row fits n) t
   pub within : In reach t
 
--- one component more is matched, or there is no assignment with it
-pub record Extended (fits owner via : List ℕ) (n stations : ℕ) (ok : Bool) (free : ℕ) : Type 0 where
+-- one component more is matched and `free` is left, or there is no assignment with it
+pub record Extended (fits owner via : List ℕ) (n stations : ℕ) (r : Option ℕ) : Type 0 where
   pub size : length via ≡ 64
-  pub yes : ok ≡ true → Matched fits owner (n + 1) stations free
-  pub no : ok ≡ false → Assignment fits (n + 1) → ⊥
+  pub matched : MatchOption r (Assignment fits (n + 1) → ⊥) (λ free. Matched fits owner (n + 1) stations free)

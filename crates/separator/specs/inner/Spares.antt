@@ -1,5 +1,5 @@
 -- What the functions of one level promise: the rule of `specs/Level` on words. The code does not know n, so it reads a table as one of 64 stations.
-use Rattle.std.specs.Prelude.{◌≡◌, Bool, true, false, not, cond, ◌&&◌, List, ℕ, zero, suc, ◌^◌, ◌<◌, length}
+use Rattle.std.specs.Prelude.{◌≡◌, Bool, true, false, not, cond, ◌&&◌, List, ℕ, zero, suc, ◌^◌, ◌<◌, length, Option, is_some, IfSome}
 use Rattle.bitset.specs.Sets.{has, any, set_of}
 use Rattle.bitset.specs.Tests.{Decides}
 use Rattle.bitset.specs.Upto.{row}
@@ -62,9 +62,8 @@ pub record Cut (s out into : ℕ) (before after : List ℕ) : Type 0 where
   pub size : length after ≡ 64
   pub word : (k : ℕ) → k < 64 → row after k ≡ cut_row s out into k (row before k)
 
--- What `spare_stations` says of the level s: whether it gives none, and otherwise that the rule strikes the legs that the cut takes out. Left open are
--- `out` and `into` where it gives none, and besides their stations without a leg inside s: nothing depends on these.
-pub record SparesOf (n : ℕ) (t : List ℕ) (s : ℕ) (r : Spares) : Type 0 where
-  pub verdict : r.none ≡ not (passable n s (marking n t s))
-  pub strikes : r.none ≡ false → (i j : ℕ) → i < n → j < n → leg t i j ≡ true
-      → struck n s (marking n t s) i j ≡ cuts s r.out r.into i j
+-- What `spare_stations` says of the level s: whether it allows something, and then that the rule strikes the legs that the cut takes out. Left open are the
+-- stations of `out` and `into` without a leg inside s: nothing depends on these.
+pub record SparesOf (n : ℕ) (t : List ℕ) (s : ℕ) (r : Option Spares) : Type 0 where
+  pub verdict : is_some r ≡ passable n s (marking n t s)
+  pub strikes : IfSome r (λ q. (i j : ℕ) → i < n → j < n → leg t i j ≡ true → struck n s (marking n t s) i j ≡ cuts s q.out q.into i j)

@@ -1,47 +1,29 @@
+use borrow.Author.Rules.{rules}
 use native.Mathlib.Omega.{arith}
-use Prim.Native.Nat.{ℕ, ◌<◌}
-use Rattle.idle.proofs.PairLaws.{joins_by, joining_start, joining_more}
+use mathlib.Core.Path.{◌∙◌}
+use native.Mathlib.Nat.{not-suc-le-zero}
+use lib.ListN.{length-set}
+use Rattle.idle.proofs.PairLaws.{joining_more}
 use Rattle.idle.proofs.idle.ends_above.Goals as goal
 
 pub loop-g-init : goal.loop-g-init
-loop-g-init c = (omega arith, joining_start _ _ _ _ c.requires.1 c.requires.2)
-
-pub group_at-group-requires : goal.group_at-group-requires
-group_at-group-requires c = omega arith
-
-pub offset_bounds-out-g : goal.offset_bounds-out-g
-offset_bounds-out-g c = omega arith
-
-pub bounds-out-g : goal.bounds-out-g
-bounds-out-g c = omega arith
-
-pub offset_bounds-into-g : goal.offset_bounds-into-g
-offset_bounds-into-g c = omega arith
-
-pub bounds-into-g : goal.bounds-into-g
-bounds-into-g c = omega arith
-
-pub overflow_add-g : goal.overflow_add-g
-overflow_add-g c = omega arith
-
-pub loop-g-smaller : goal.loop-g-smaller
-loop-g-smaller c = omega arith
+loop-g-init c = record { out_size = search rules; into_size = search rules; joining = λ k l. absurd (not-suc-le-zero l) }
 
 pub loop-g-preserved : goal.loop-g-preserved
 loop-g-preserved c =
     let v = c.loop-g in
-    let e = c.ends_in-ends.ensures in (
-      omega arith,
-      joining_more _ _ v.g _ v.out v.into _ _ v.invariant.1 (omega arith) (joins_by _ _ _ _ _ c.group_at-group.ensures e.0 e.1 e.2) (omega arith),
-    )
+    let J = v.invariant in
+    let e = c.ends_in-ends.ensures in
+    record {
+      out_size = length-set v.fits.out v.g c.ends_in-ends.result.tails ∙ J.out_size;
+      into_size = length-set v.fits.into v.g c.ends_in-ends.result.heads ∙ J.into_size;
+      joining =
+          joining_more _ _ v.g _ v.fits.out v.fits.into _ _ J.joining (omega arith) (omega arith)
+          (record { tail = e.0; head = e.1; pairs = λ t u b room G. e.2 t u room G.pivot G.ahead G.back })
+          (omega arith);
+    }
 
 pub returns : goal.returns
 returns c =
-    let v = c.loop-g in
-    let at : (g : ℕ) → g < c.args.q → g < v.g = λ g l. omega (arith, v.invariant.0) in
-    let each = v.invariant.1.each in (
-      v.invariant.1.out_size,
-      v.invariant.1.into_size,
-      λ g l. ((each g (at g l)).tail, (each g (at g l)).head),
-      λ g l. (each g (at g l)).pairs,
-    )
+    let J = c.loop-g.invariant in
+    (J.out_size, J.into_size, λ g l. let W = J.joining g (omega arith) in (W.tail, W.head), λ g l. (J.joining g (omega arith)).pairs)

