@@ -1,34 +1,24 @@
 // The cut step on a work state, called by hand: the checks, the verdict on the two tables, the hand rules.
 #![tactic(auto)]
 
-ghost use Rattle.std.specs.Prelude.{◌≡◌, true, false, length};
+ghost use Rattle.std.specs.Prelude.{◌≡◌, true, false};
 ghost use Rattle.circuit.specs.State.{is_none, Good};
 ghost use Rattle.roads.specs.Cut.{cut, is_two_way, are_roads};
 ghost use Rattle.filter.specs.inner.Steps.{state_at};
 ghost use Rattle.cut.specs.Call.{cut_by_hand, cut_call};
 ghost use Rattle.cut.specs.inner.Parts.{cut_as};
 
-use circuit::{Answer, Table, Work};
+use circuit::{Answer, Work};
 use filter::{CalledIn, Cursor};
 
 // What the cut step hands back.
-#[derive(Clone, Copy)]
+// By hand, no Result: a refusal hands the state and the roads back too (`cut_call` of specs/Call).
+#[derive(Clone, Copy, Debug, PartialEq, Eq)]
 pub struct CutCalled {
     pub answer: Answer,
     pub work: Work,
     pub must: [u64; 64],
     pub removed: u32,
-}
-
-// Place, mark and end as they were, and no removals.
-fn unmoved(answer: Answer, at: Cursor) -> CalledIn
-    ensures { result ≡ record { answer = answer; at = at; removed = 0 } }
-{
-    CalledIn {
-        answer,
-        at,
-        removed: 0,
-    }
 }
 
 // The cut step on a good state whose end is not none and whose tables have passed the checks.
@@ -39,12 +29,12 @@ fn cut_by_hand(
     limit: usize,
     at: Cursor,
 ) -> CalledIn
-    requires { Good (state_at n rows.old limit at) × (length rows.old ≡ 64) × (is_two_way n rows.old ≡ true) × (are_roads rows.old must.old ≡ true) × (is_none at.end ≡ false) }
+    requires { Good (state_at n rows.old limit at) × (is_two_way n rows.old ≡ true) × (are_roads rows.old must.old ≡ true) × (is_none at.end ≡ false) }
     ensures { cut_as n limit rows.new must.new result ≡ cut_by_hand (state_at n rows.old limit at) must.old (cut n rows.old must.old) }
 {
     let before = *rows;
-    let given = *must;
-    let says = roads::cut(before, given, n);
+    let says = roads::cut(before, *must, n);
+    // By way of variables: no proof is made of an array field that is stored straight.
     let left = says.left;
     let driven = says.must;
     *rows = left;
@@ -53,6 +43,7 @@ fn cut_by_hand(
 }
 
 // The cut step on lent rows and a lent table of must-drive roads.
+// By hand: rows, roads, n, limit and cursor stay apart, since C lends the rows and the roads.
 pub fn cut_in(
     rows: &mut [u64; 64],
     must: &mut [u64; 64],
@@ -60,22 +51,20 @@ pub fn cut_in(
     limit: usize,
     at: Cursor,
 ) -> CalledIn
-    requires { length rows.old ≡ 64 }
     ensures { (cut_as n limit rows.new must.new result ≡ cut_call (state_at n rows.old limit at) must.old)
         × (result.removed ≡ 0 → rows.new ≡ rows.old) }
 {
     if circuit::is_bad_state(rows, n, limit, at.place) {
-        return unmoved(Answer::BadWork, at);
+        return CalledIn::unmoved(Answer::BadWork, at);
     }
     if !roads::is_two_way(rows, n) {
-        return unmoved(Answer::NotTwoWay, at);
+        return CalledIn::unmoved(Answer::NotTwoWay, at);
     }
     if !roads::are_roads(rows, must) {
-        return unmoved(Answer::StrayRoad, at);
+        return CalledIn::unmoved(Answer::StrayRoad, at);
     }
-    let end = at.end;
-    if end.is_none() {
-        return unmoved(Answer::Taken, at);
+    if at.end.is_none() {
+        return CalledIn::unmoved(Answer::Taken, at);
     }
     cut_by_hand(rows, must, n, limit, at)
 }
@@ -84,23 +73,12 @@ pub fn cut_in(
 pub fn cut(work: Work, must: [u64; 64]) -> CutCalled
     ensures { result ≡ cut_call work must }
 {
-    let given = work.table;
-    let mut rows = given.rows;
+    let mut rows = work.table.rows;
     let mut driven = must;
-    let end = work.end;
-    let from = Cursor {
-        place: work.place,
-        mark: work.mark,
-        end,
-    };
-    let called = cut_in(&mut rows, &mut driven, work.n, work.limit, from);
-    let table = Table { rows };
-    let at = called.at;
-    let answer = called.answer;
-    let end = at.end;
+    let called = cut_in(&mut rows, &mut driven, work.n, work.limit, Cursor::of(work));
     CutCalled {
-        answer,
-        work: work.moved(table, at.place, at.mark, end),
+        answer: called.answer,
+        work: called.at.state(work, rows),
         must: driven,
         removed: called.removed,
     }

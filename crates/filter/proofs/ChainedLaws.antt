@@ -83,18 +83,17 @@ pub record Gathered (n : ℕ) (t : List ℕ) (r : CompulsoryLegs) (words : List 
   pub leave : (k : ℕ) → k < 64 → has r.leave k ≡ ltb 0 (row (compulsories n t) k)
   pub enter : (k : ℕ) → k < 64 → has r.enter k ≡ ltb 0 (row (columns n (compulsories n t)) k)
 
-module _ (n : ℕ) (t : List ℕ) (le : n ≤ 64) (clean : stray n t ≡ false) (next : Singles) (gn : SinglesOf n t next) (sole : ℕ) (alone : sole ≡ set_of 64 (sole_in next)) (r : CompulsoryLegs) (words : List ℕ)
-    (g : CompulsoryOf n (compulsory_words n t sole) r words) where
-  of_compulsories : CompulsoryOf n (compulsories n t) r words
-  of_compulsories = subst (λ (u : List ℕ). CompulsoryOf n u r words) (compulsory_rows n t sole le clean (sole_is n t le clean next gn sole alone)) g
+module _ (n : ℕ) (t : List ℕ) (le : n ≤ 64) (clean : stray n t ≡ false) (next : Singles) (gn : SinglesOf n t next) (sole : ℕ) (alone : sole ≡ set_of 64 (sole_in next)) where
+  by_words : compulsory_words n t sole ≡ compulsories n t
+  by_words = compulsory_rows n t sole le clean (sole_is n t le clean next gn sole alone)
 
-  pub fork_none : r.forked ≡ true → chain n t ≡ says_none t
-  fork_none e = chain_none n t (or_l (looped n (s n t)) (sym of_compulsories.fork ∙ e))
+  pub fork_none : forked n (compulsory_words n t sole) ≡ true → chain n t ≡ says_none t
+  fork_none e = chain_none n t (or_l (looped n (s n t)) (ap (forked n) (sym by_words) ∙ e))
 
-  pub gathered : r.leave < 2 ^ 64 → r.enter < 2 ^ 64 → r.forked ≡ false → Gathered n t r words
-  gathered hl he e =
-      let c = of_compulsories in
-      record { most = le; leave_fits = hl; enter_fits = he; unforked = sym c.fork ∙ e; legs = c.legs e; leave = c.leave e; enter = c.enter e }
+  pub gathered : (r : CompulsoryLegs) (words : List ℕ) → CompulsoryOf n (compulsory_words n t sole) r words → r.leave < 2 ^ 64 → r.enter < 2 ^ 64 → Gathered n t r words
+  gathered r words g hl he =
+      let c = subst (λ (u : List ℕ). CompulsoryOf n u r words) by_words g in
+      record { most = le; leave_fits = hl; enter_fits = he; unforked = c.unforked; legs = c.legs; leave = c.leave; enter = c.enter }
 
 module _ {n : ℕ} {t : List ℕ} {r : CompulsoryLegs} {words : List ℕ} (g : Gathered n t r words) where
   le : n ≤ 64

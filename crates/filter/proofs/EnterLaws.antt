@@ -13,7 +13,7 @@ use lib.Seq.{get_or-set_same, get_or-set_other}
 use borrow.Author.Tests.{eqb-true, eqb-false, eq-eqb, lt-ltb, le-ltb, not-true, not-false}
 use Rattle.bitset.specs.Sets.{has, any, set_of, size}
 use Rattle.bitset.specs.Upto.{row}
-use Rattle.bitset.proofs.BoolLaws.{clash, cases, and_intro, or_l, or_r, or_cases, or_none, or_false_l, or_false_r}
+use Rattle.bitset.proofs.BoolLaws.{cases, and_intro, or_l, or_r, or_cases, or_none, or_false_l, or_false_r}
 use Rattle.bitset.proofs.HasLaws.{has_zero, has_and, has_pow, member_below}
 use Rattle.bitset.proofs.MachineLaws.{shl_one, set_of_take, set_of_skip}
 use Rattle.bitset.proofs.OnesLaws.{ones_zero, ones_pos, has_pos, size_ones}
@@ -144,9 +144,9 @@ module _ (n : ℕ) (m : List ℕ) (le : n ≤ 64) (sq : Square n m) (i leave ent
         none : (j : ℕ) → j < 64 → holds m j i && any i (holds m j) ≡ false
         none j l = ap₂ (λ (a b : Bool). a && b) (sym (at j)) (sym (g.enter j l)) ∙ and_comm (has w j) (has enter j) ∙ sym (has_and enter w j) ∙ ap (λ (x : ℕ). has x j) empty ∙ has_zero j
 
-    pub gathering_fork : ltb 1 (ones w) || not (eqb (bit_and enter w) 0) ≡ true → CompulsoryOf n m (record { leave = leave; enter = enter; forked = true }) words
+    pub gathering_fork : ltb 1 (ones w) || not (eqb (bit_and enter w) 0) ≡ true → forked n m ≡ true
     unfolding forked
-    gathering_fork e = record { fork = sym (⊎_elim out into (or_cases (ltb 1 (ones w)) (not (eqb (bit_and enter w) 0)) e)); legs = clash; leave = clash; enter = clash }
+    gathering_fork e = ⊎_elim out into (or_cases (ltb 1 (ones w)) (not (eqb (bit_and enter w) 0)) e)
       where
         fork : ℕ → Bool
         fork k = ltb 1 (size n (row m k)) || ltb 1 (size n (col n m k))
@@ -166,17 +166,17 @@ module _ (n : ℕ) (m : List ℕ) (le : n ≤ 64) (sq : Square n m) (i leave ent
             any_intro n (λ k. holds m j k && any k (holds m j)) i low (and_intro (ap (λ (x : ℕ). has x j) (sym is) ∙ b.1) (sym (g.enter j (omega (arith, f.1, le))) ∙ b.0)) in
             any_intro n fork j f.1 (or_r (ltb 1 (size n (row m j))) (ap (ltb 1) (size_ones n (col n m j) (col_below n m j)) ∙ sym (col_two n m j) ∙ pair))
 
-  pub gathering_end : n ≤ i → ((k : ℕ) → n ≤ k → k < 64 → row m k ≡ 0) → CompulsoryOf n m (record { leave = leave; enter = enter; forked = false }) words
+  pub gathering_end : n ≤ i → ((k : ℕ) → n ≤ k → k < 64 → row m k ≡ 0) → CompulsoryOf n m (record { leave = leave; enter = enter }) words
   unfolding forked
   gathering_end end blank =
       let at-end : i ≡ n = omega (arith, end, g.most) in
       record {
-        fork = sym (any_none n (λ k. ltb 1 (size n (row m k)) || ltb 1 (size n (col n m k))) (λ k l. or_none
+        unforked = any_none n (λ k. ltb 1 (size n (row m k)) || ltb 1 (size n (col n m k))) (λ k l. or_none
             (ap (ltb 1) (size_ones n (row m k) (sq k l)) ∙ g.lone k (omega (arith, l)))
-            (ap (ltb 1) (size_ones n (col n m k) (col_below n m k)) ∙ sym (col_two n m k) ∙ ap (λ (x : ℕ). two x (holds m k)) (sym at-end) ∙ g.apart k (omega (arith, l)))));
-        legs = λ _. g.legs ∙ ap (λ (x : ℕ). columns x m) at-end;
-        leave = λ _ k l. g.leave k l ∙ ⊎_elim
+            (ap (ltb 1) (size_ones n (col n m k) (col_below n m k)) ∙ sym (col_two n m k) ∙ ap (λ (x : ℕ). two x (holds m k)) (sym at-end) ∙ g.apart k (omega (arith, l))));
+        legs = g.legs ∙ ap (λ (x : ℕ). columns x m) at-end;
+        leave = λ k l. g.leave k l ∙ ⊎_elim
             (λ (h : k < n). ap (λ (b : Bool). b && ltb 0 (row m k)) (lt-ltb k i (omega arith)))
             (λ (h : n ≤ k). ap (λ (b : Bool). b && ltb 0 (row m k)) (le-ltb k i (omega arith)) ∙ sym (ap (ltb 0) (blank k h l) ∙ le-ltb 0 0 (omega arith))) (below? k n);
-        enter = λ _ j l. g.enter j l ∙ ap (λ (x : ℕ). any x (holds m j)) at-end ∙ sym (ap (ltb 0) (get_d_upto 64 (col n m) 0 j l) ∙ col_some n m j);
+        enter = λ j l. g.enter j l ∙ ap (λ (x : ℕ). any x (holds m j)) at-end ∙ sym (ap (ltb 0) (get_d_upto 64 (col n m) 0 j l) ∙ col_some n m j);
       }

@@ -5,14 +5,14 @@ use mathlib.Core.Bool.{Bool, true, false, not, cond, ◌&&◌, and-true, and-fal
 use mathlib.Core.List.{List}
 use Prim.Native.Nat.{ℕ, ◌-◌, ◌^◌, ◌≤◌, ◌<◌}
 use native.Mathlib.Omega.{arith}
-use lib.Bits.{bit_and, and_le_l}
-use lib.Count.{count_trailing_zeros}
+use lib.Bits.{and_le_l}
 use lib.Dec.{eqb, ltb}
 use lib.ListN.{length, set, length-set}
 use lib.Seq.{get_or-set_same, get_or-set_other}
 use borrow.Author.Tests.{eqb-true, eqb-false, lt-ltb, le-ltb}
 use Rattle.bitset.specs.Sets.{has, set_of}
 use Rattle.bitset.specs.Upto.{row}
+use Rattle.bitset.specs.inner.Members.{Parts}
 use Rattle.bitset.proofs.BoolLaws.{cases, and_l, cond_true, cond_false, taut1}
 use Rattle.bitset.proofs.HasLaws.{has_zero, has_above, member_below}
 use Rattle.bitset.proofs.LeastLaws.{trailing_least, has_clear}
@@ -41,45 +41,44 @@ module _ (t words : List ℕ) (ends : ℕ) where
   striking_start size h =
       record { rest_fits = h; within = λ b e. e; size = size; rows_are = λ i l. sym (cond_false (struck_row t words i) (row t i) (taut1 (λ a. a && not a) (λ a. false) refl (has ends i))) }
 
-  module _ (rest : ℕ) (rows : List ℕ) (s : Striking t words ends rest rows) where
-    -- the least of the rest is struck
-    pub striking_turn : 0 < rest → (w : ℕ) → w ≡ set_of 64 (λ j. has (row rows (count_trailing_zeros 64 rest)) j && not (has (row words (count_trailing_zeros 64 rest)) j))
-        → Striking t words ends (bit_and rest (rest - 1)) (set rows (count_trailing_zeros 64 rest) w)
-    striking_turn p w e =
+  -- the least of the rest is struck
+  module _ (rest : ℕ) (rows : List ℕ) (b others : ℕ) (parts : Parts rest b others) (s : Striking t words ends rest rows) where
+    pub striking_turn : (w : ℕ) → w ≡ set_of 64 (λ j. has (row rows b) j && not (has (row words b) j)) → Striking t words ends others (set rows b w)
+    striking_turn w e =
         record {
-          rest_fits = omega (arith, s.rest_fits, and_le_l rest (rest - 1));
+          rest_fits = omega (arith, s.rest_fits, parts.others, and_le_l rest (rest - 1));
           within = λ i q. s.within i (and_l (has rest i) (not (eqb i b)) (sym (clear i) ∙ q));
           size = length-set rows b w ∙ s.size;
           rows_are = λ i l. ⊎_elim (here i) (other i l) (cases (eqb i b));
         }
       where
-        b : ℕ
-        b = count_trailing_zeros 64 rest
-
         low : b < 64
-        low = (trailing_least 64 rest p s.rest_fits).below
+        low = parts.below
 
         member : has rest b ≡ true
-        member = (trailing_least 64 rest p s.rest_fits).member
+        member = ap (has rest) parts.least ∙ (trailing_least 64 rest parts.nonempty s.rest_fits).member
 
-        clear : (i : ℕ) → has (bit_and rest (rest - 1)) i ≡ has rest i && not (eqb i b)
-        clear i = has_clear 64 rest i p s.rest_fits
+        clear : (i : ℕ) → has others i ≡ has rest i && not (eqb i b)
+        clear i =
+            ap (λ (x : ℕ). has x i) parts.others ∙ has_clear 64 rest i parts.nonempty s.rest_fits
+            ∙ ap (λ (x : ℕ). has rest i && not (eqb i x)) (sym parts.least)
 
         before : row rows b ≡ row t b
         before = s.rows_are b low ∙ cond_false (struck_row t words b) (row t b) (ap (λ (x : Bool). has ends b && not x) member ∙ and-false (has ends b))
 
-        here : (i : ℕ) → eqb i b ≡ true → row (set rows b w) i ≡ cond (has ends i && not (has (bit_and rest (rest - 1)) i)) (struck_row t words i) (row t i)
+        here : (i : ℕ) → eqb i b ≡ true → row (set rows b w) i ≡ cond (has ends i && not (has others i)) (struck_row t words i) (row t i)
         here i q =
             let is : i ≡ b = eqb-true i b q in
             ap (row (set rows b w)) is ∙ get_or-set_same rows b w 0 (omega (arith, low, s.size)) ∙ e ∙ ap (λ (x : ℕ). set_of 64 (λ j. has x j && not (has (row words b) j))) before ∙ ap (struck_row t words) (sym is)
             ∙ sym (cond_true (struck_row t words i) (row t i) (ap₂ (λ (x y : Bool). x && not y) (ap (has ends) is ∙ s.within b member) (clear i ∙ ap (λ (x : Bool). has rest i && not x) q ∙ and-false (has rest i))))
 
-        other : (i : ℕ) → i < 64 → eqb i b ≡ false → row (set rows b w) i ≡ cond (has ends i && not (has (bit_and rest (rest - 1)) i)) (struck_row t words i) (row t i)
+        other : (i : ℕ) → i < 64 → eqb i b ≡ false → row (set rows b w) i ≡ cond (has ends i && not (has others i)) (struck_row t words i) (row t i)
         other i l q =
             get_or-set_other rows b i w 0 (eqb-false i b q) ∙ s.rows_are i l
             ∙ ap (λ (x : Bool). cond (has ends i && not x) (struck_row t words i) (row t i)) (sym (clear i ∙ ap (λ (x : Bool). has rest i && not x) q ∙ and-true (has rest i)))
 
-    -- all are struck
+  -- all are struck
+  module _ (rest : ℕ) (rows : List ℕ) (s : Striking t words ends rest rows) where
     pub striking_end : rest ≡ 0 → (n : ℕ) → n ≤ 64 → ends < 2 ^ n → stray n t ≡ false → rows ≡ without n t (closed ends words)
     unfolding without table_of leg
     striking_end none n le h clean = upto_of 64 (λ i. cond (ltb i n) (set_of n (stays i)) 0) 0 rows s.size (λ i l. at i l ∙ ⊎_elim (inside i) (beyond i l) (below? i n))

@@ -2,21 +2,23 @@
 use mathlib.Core.Path.{◌≡◌, refl, sym, ap, ap₂, ◌∙◌}
 use mathlib.Core.Logic.{⊎_elim}
 use mathlib.Core.Bool.{Bool, true, false, not, cond, ◌&&◌, ◌||◌, and-false}
-use mathlib.Core.List.{List}
-use Prim.Native.Nat.{ℕ, ◌^◌, ◌≤◌, ◌<◌}
+use mathlib.Core.List.{List, ◌++◌}
+use Prim.Native.Nat.{ℕ, ◌+◌, ◌-◌, ◌^◌, ◌≤◌, ◌<◌}
 use native.Mathlib.Nat.{lt_of_lt_of_le}
 use native.Mathlib.Omega.{arith}
 use lib.Bits.{bit_and, and_le_l}
 use lib.Dec.{eqb, ltb}
-use lib.ListN.{length, get_or}
+use lib.ListN.{length, get_or, drop, length-append, get_or-append}
 use lib.Pow.{pow_mono}
 use borrow.Author.Tests.{lt-ltb, le-ltb}
+use Rattle.std.proofs.lemmas.List.{length-drop, get_or-drop, get_or-append_right}
 use Rattle.bitset.specs.Sets.{has, any, set_of}
 use Rattle.bitset.specs.Upto.{upto, row}
 use Rattle.bitset.proofs.BoolLaws.{clash, cases, or_none, cond_true, cond_false, taut2}
 use Rattle.bitset.proofs.QuantLaws.{below?, any_intro, any_none, any_ext, any_or}
 use Rattle.bitset.proofs.HasLaws.{has_zero, has_above, has_and, ext}
 use Rattle.bitset.proofs.SetLaws.{has_set_of, word_has, set_of_lt, set_of_above}
+use Rattle.bitset.proofs.UptoLaws.{length_upto, get_d_upto, upto_of}
 use Rattle.circuit.specs.Legs.{columns, leg, col, table_of, without}
 use Rattle.circuit.specs.State.{stray}
 use Rattle.circuit.specs.Verdict.{says_none, leaves}
@@ -155,9 +157,25 @@ pub swept_in : (n : ℕ) (t : List ℕ) (i w : ℕ) → i < n → w ≡ set_of n
 unfolding swept_row
 swept_in n t i w l e = e ∙ sym (cond_true _ 0 (lt-ltb i n l))
 
-pub swept_beyond : (n : ℕ) (t : List ℕ) → stray n t ≡ false → (i : ℕ) → n ≤ i → i < 64 → get_or t i 0 ≡ swept_row n t i
+-- the rows below n are swept, and beyond there are none
+pub swept_part : (n : ℕ) (t : List ℕ) → n ≤ 64 → stray n t ≡ false → length t ≡ 64 → (part : List ℕ) → part ≡ upto n (swept_row n t) → part ++ drop n t ≡ swept n t
 unfolding swept_row
-swept_beyond n t e i g l = stray_beyond n t e i g l ∙ sym (cond_false _ 0 (le-ltb i n g))
+swept_part n t le clean len part is =
+    upto_of 64 (swept_row n t) 0 (part ++ drop n t) (length-append part (drop n t) ∙ omega (arith, long, length-drop n t))
+    (λ k l. ⊎_elim (within k) (beyond k l) (below? k n))
+    ∙ swept_rows n t
+  where
+    long : length part ≡ n
+    long = ap length is ∙ length_upto n (swept_row n t)
+
+    within : (k : ℕ) → k < n → get_or (part ++ drop n t) k 0 ≡ swept_row n t k
+    within k l = get_or-append part (drop n t) 0 k (omega (arith, long)) ∙ ap (λ (u : List ℕ). get_or u k 0) is ∙ get_d_upto n (swept_row n t) 0 k l
+
+    beyond : (k : ℕ) → k < 64 → n ≤ k → get_or (part ++ drop n t) k 0 ≡ swept_row n t k
+    beyond k l g =
+        let at : n + (k - n) ≡ k = omega arith in
+        get_or-append_right part (drop n t) n k 0 long g ∙ get_or-drop n t (k - n) 0 ∙ ap (λ (i : ℕ). get_or t i 0) at
+        ∙ stray_beyond n t clean k g l ∙ sym (cond_false _ 0 (le-ltb k n g))
 
 -- where no station has one leg only, no leg goes
 module _ (n : ℕ) (t : List ℕ) (le : n ≤ 64) (clean : stray n t ≡ false) (next : Singles) (gn : SinglesOf n t next) (sole : ℕ) (alone : sole ≡ set_of 64 (sole_in next)) (none_out : next.once ≡ 0) (none_in : sole ≡ 0) where

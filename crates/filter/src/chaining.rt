@@ -8,28 +8,24 @@ ghost use Rattle.circuit.specs.Legs.{columns, without};
 ghost use Rattle.circuit.specs.State.{stray};
 ghost use Rattle.circuit.specs.inner.Tables.{Square};
 ghost use Rattle.filter.specs.Chain.{nexts, joined, chain};
-ghost use Rattle.filter.specs.inner.Chains.{compulsory_word, compulsory_words, CompulsoryOf, ChainsOf, ShortLoop, closed};
+ghost use Rattle.filter.specs.inner.Chains.{compulsory_word, compulsory_words, CompulsoryTold, ChainsOf, ShortLoop, closed};
 ghost use Rattle.filter.specs.inner.Steps.{RowsLeft};
 
 use crate::singles::{is_single, single_words};
 use separator::Taken;
 
-// Of the compulsory legs: the stations that one leaves, those that one enters, and whether two leave or enter one station.
+// Of the compulsory legs: the stations that one leaves, and those that one enters.
 #[derive(Clone, Copy)]
 struct CompulsoryLegs {
     leave: u64,
     enter: u64,
-    forked: bool,
 }
 
 // The compulsory legs of a row: its only leg, or those to a station that has no other leg in; `sole` has these stations.
 fn compulsory_word(word: u64, sole: u64) -> u64
     ensures { result ≡ compulsory_word word sole }
 {
-    if is_single(word) {
-        return word;
-    }
-    word & sole
+    if is_single(word) { word } else { word & sole }
 }
 
 // Has the word two members, or one of the set?
@@ -44,7 +40,7 @@ fn clashes(w: u64, set: u64) -> bool
 
 // Station i goes to the word of the station that its leg enters, if it has one: to the columns of the rows below i, row i joins.
 fn add_leg(legs: &mut [u64; 64], i: usize, w: u64)
-    requires { (i < 64) × (length legs.old ≡ 64) × (ones w ≤ 1) }
+    requires { (i < 64) × (ones w ≤ 1) }
     ensures { (m : List ℕ) → row m i ≡ w → legs.old ≡ columns i m → legs.new ≡ columns (i + 1) m }
 {
     if w != 0 {
@@ -53,33 +49,29 @@ fn add_leg(legs: &mut [u64; 64], i: usize, w: u64)
     }
 }
 
-// The compulsory legs of the first n rows, into `legs` by the stations that they enter. Ends at the first row whose legs clash with another.
-fn compulsory_legs(rows: &[u64; 64], n: usize, sole: u64, legs: &mut [u64; 64]) -> CompulsoryLegs
+// The compulsory legs of the first n rows, into `legs` by the stations that they enter. None where two leave or enter one station: it ends at the first
+// row whose legs clash with another.
+fn compulsory_legs(
+    rows: &[u64; 64],
+    n: usize,
+    sole: u64,
+    legs: &mut [u64; 64],
+) -> Option<CompulsoryLegs>
     requires { (n ≤ 64) × Square n rows.now × (legs.old ≡ replicate 64 0) }
-    ensures { CompulsoryOf n (compulsory_words n rows.now sole) result legs.new }
+    ensures { CompulsoryTold n (compulsory_words n rows.now sole) result legs.new }
 {
     let mut leave = 0u64;
     let mut enter = 0u64;
-    let mut i = 0usize;
-    while i < n {
+    for i in 0..n {
         let w = compulsory_word(rows[i], sole);
         if clashes(w, enter) {
-            return CompulsoryLegs {
-                leave,
-                enter,
-                forked: true,
-            };
+            return None;
         }
         add_leg(legs, i, w);
         leave = bitset::insert_if(leave, i, w);
         enter |= w;
-        i += 1;
     }
-    CompulsoryLegs {
-        leave,
-        enter,
-        forked: false,
-    }
+    Some(CompulsoryLegs { leave, enter })
 }
 
 // The stations that 1 to `most` legs lead to from a, by the lowest leg of each. The code needs no n, so the promise is for any n.
@@ -89,15 +81,13 @@ fn joined_from(legs: &[u64; 64], most: usize, a: usize) -> u64
 {
     let mut at = a;
     let mut met = 0u64;
-    let mut k = 0usize;
-    while k < most {
+    for _k in 0..most {
         let w = legs[at];
         if w == 0 {
             return met;
         }
         at = bitset::lowest(w) as usize;
         met |= 1u64 << at;
-        k += 1;
     }
     met
 }
@@ -105,17 +95,14 @@ fn joined_from(legs: &[u64; 64], most: usize, a: usize) -> u64
 // The chains, each from its end: `prev` has the legs into each station, and `into` the stations that have one. Where the chain is closed by a leg from
 // its end, `closing` gets the station that the leg enters. Answers all stations that are met.
 fn find_chains(prev: &[u64; 64], n: usize, into: u64, ends: u64, closing: &mut [u64; 64]) -> u64
-    requires { (2 ≤ n) × (n ≤ 64) × (ends < 2 ^ n) × Square n prev.now × (length closing.old ≡ 64) }
+    requires { (2 ≤ n) × (n ≤ 64) × (ends < 2 ^ n) × Square n prev.now }
     ensures { ChainsOf n (nexts n prev.now) into ends closing.new result }
 {
     let mut met = ends;
-    let mut rest = ends;
-    while rest != 0 {
-        let b = u64::trailing_zeros(rest) as usize;
+    for b in bitset::Members::of(ends) {
         let chain = joined_from(prev, n - 2, b);
         closing[b] = chain & !into;
         met |= chain;
-        rest &= rest - 1;
     }
     met
 }
@@ -128,32 +115,27 @@ fn short_loop(prev: &[u64; 64], n: usize, rest: u64) -> bool
     if rest == 0 {
         return false;
     }
-    let a = u64::trailing_zeros(rest) as usize;
+    let a = rest.trailing_zeros() as usize;
     bitset::contains(joined_from(prev, n - 1, a), a)
 }
 
 // Strikes the closing legs, each out of an end. Answers whether a leg went. The code needs no n, so the promise is for any n.
 fn strike_closing(rows: &mut [u64; 64], ends: u64, closing: &[u64; 64]) -> bool
-    requires { length rows.old ≡ 64 }
     ensures { ((n : ℕ) → n ≤ 64 → ends < 2 ^ n → stray n rows.old ≡ false → rows.new ≡ without n rows.old (closed ends closing.now))
         × (result ≡ false → rows.new ≡ rows.old) }
 {
     let mut struck = false;
-    let mut rest = ends;
-    while rest != 0 {
-        let b = u64::trailing_zeros(rest) as usize;
-        let row = rows[b];
-        let left = bitset::difference(row, closing[b]);
-        struck = struck | (left != row);
+    for b in bitset::Members::of(ends) {
+        let left = bitset::difference(rows[b], closing[b]);
+        struck |= left != rows[b];
         rows[b] = left;
-        rest &= rest - 1;
     }
     struck
 }
 
 // The chain step on the rows. Where no station has one leg only, no leg is compulsory.
 pub(crate) fn chain_rows(rows: &mut [u64; 64], n: usize) -> Taken
-    requires { (2 ≤ n) × (n ≤ 64) × (length rows.old ≡ 64) × (stray n rows.old ≡ false) }
+    requires { (2 ≤ n) × (n ≤ 64) × (stray n rows.old ≡ false) }
     ensures { RowsLeft n (chain n rows.old) result rows.old rows.new }
 {
     let next = single_words(rows, n);
@@ -165,17 +147,16 @@ pub(crate) fn chain_rows(rows: &mut [u64; 64], n: usize) -> Taken
         };
     }
     let mut legs = [0u64; 64];
-    let compulsory = compulsory_legs(rows, n, sole, &mut legs);
-    if compulsory.forked {
+    let Some(CompulsoryLegs { leave, enter }) = compulsory_legs(rows, n, sole, &mut legs) else {
         return Taken {
             none: true,
             struck: false,
         };
-    }
-    let ends = compulsory.enter & !compulsory.leave;
+    };
+    let ends = enter & !leave;
     let mut closing = [0u64; 64];
-    let met = find_chains(&legs, n, compulsory.enter, ends, &mut closing);
-    if short_loop(&legs, n, compulsory.enter & !met) {
+    let met = find_chains(&legs, n, enter, ends, &mut closing);
+    if short_loop(&legs, n, enter & !met) {
         return Taken {
             none: true,
             struck: false,

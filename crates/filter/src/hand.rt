@@ -9,32 +9,36 @@ ghost use Rattle.filter.specs.inner.Steps.{HandMoved, state_at, called_as};
 use crate::counting::removals;
 use crate::cycle::Cursor;
 use crate::rule::{Rule, take};
-use circuit::{Answer, End, Table, Work};
+use circuit::{Answer, End, Work};
 
 // What a rule called by hand hands back.
-#[derive(Clone, Copy)]
+// By hand, no Result: a refusal hands the state back too (`unchanged` of specs/Calls), and a list of calls goes on from it (demand 3).
+#[derive(Clone, Copy, Debug, PartialEq, Eq)]
 pub struct Called {
     pub answer: Answer,
     pub work: Work,
     pub removed: u32,
 }
 
-// What a rule called by hand on lent rows hands back beside them.
-#[derive(Clone, Copy)]
+// What a rule called by hand on lent rows hands back beside them. Rows, n, limit and cursor stay apart: so `call_in` and `by_verdict` promise, and C lends the rows.
+// By hand, no Result: by the promise of `call_in` (`called_as`) a refusal gives the cursor too.
+#[derive(Clone, Copy, Debug, PartialEq, Eq)]
 pub struct CalledIn {
     pub answer: Answer,
     pub at: Cursor,
     pub removed: u32,
 }
 
-// Place, mark and end as they were, and no removals.
-fn unmoved(answer: Answer, at: Cursor) -> CalledIn
-    ensures { result ≡ record { answer = answer; at = at; removed = 0 } }
-{
-    CalledIn {
-        answer,
-        at,
-        removed: 0,
+impl CalledIn {
+    // Place, mark and end as they were, and no removals.
+    pub fn unmoved(answer: Answer, at: Cursor) -> CalledIn
+        ensures { result ≡ record { answer = answer; at = at; removed = 0 } }
+    {
+        CalledIn {
+            answer,
+            at,
+            removed: 0,
+        }
     }
 }
 
@@ -44,9 +48,8 @@ fn moved_by(at: Cursor, none: bool, removed: u32) -> Cursor
 {
     if none {
         return Cursor {
-            place: at.place,
-            mark: at.mark,
             end: End::None,
+            ..at
         };
     }
     if 0 < removed {
@@ -69,7 +72,7 @@ pub fn by_verdict(
     none: bool,
     struck: bool,
 ) -> CalledIn
-    requires { (n ≤ 64) × (stray n before.now ≡ false) × (length before.now ≡ 64) × (length left.now ≡ 64) × Subtable left.now before.now
+    requires { (n ≤ 64) × (stray n before.now ≡ false) × Subtable left.now before.now
         × (struck ≡ false → left.now ≡ before.now) × (is_none at.end ≡ false) }
     ensures { (limit : ℕ) → called_as n limit left.now result ≡ by_hand (state_at n before.now limit at) (record { none = none; left = left.now }) }
 {
@@ -83,7 +86,7 @@ pub fn by_verdict(
 
 // A rule called by hand on a good state whose end is not none.
 fn by_hand(rows: &mut [u64; 64], n: usize, limit: usize, at: Cursor, rule: Rule) -> CalledIn
-    requires { Good (state_at n rows.old limit at) × (length rows.old ≡ 64) × (stray_seed n rule ≡ false) × (is_none at.end ≡ false) }
+    requires { Good (state_at n rows.old limit at) × (stray_seed n rule ≡ false) × (is_none at.end ≡ false) }
     ensures { called_as n limit rows.new result ≡ by_hand (state_at n rows.old limit at) (verdict (state_at n rows.old limit at) rule) }
 {
     let before = *rows;
@@ -93,19 +96,17 @@ fn by_hand(rows: &mut [u64; 64], n: usize, limit: usize, at: Cursor, rule: Rule)
 
 // A rule called by hand on lent rows: the checks, and then its verdict on them.
 pub fn call_in(rows: &mut [u64; 64], n: usize, limit: usize, at: Cursor, rule: Rule) -> CalledIn
-    requires { length rows.old ≡ 64 }
     ensures { (called_as n limit rows.new result ≡ hand_call (state_at n rows.old limit at) rule)
         × (result.removed ≡ 0 → rows.new ≡ rows.old) }
 {
     if circuit::is_bad_state(rows, n, limit, at.place) {
-        return unmoved(Answer::BadWork, at);
+        return CalledIn::unmoved(Answer::BadWork, at);
     }
     if rule.has_stray_seed(n) {
-        return unmoved(Answer::StraySeed, at);
+        return CalledIn::unmoved(Answer::StraySeed, at);
     }
-    let end = at.end;
-    if end.is_none() {
-        return unmoved(Answer::Taken, at);
+    if at.end.is_none() {
+        return CalledIn::unmoved(Answer::Taken, at);
     }
     by_hand(rows, n, limit, at, rule)
 }
@@ -114,22 +115,11 @@ pub fn call_in(rows: &mut [u64; 64], n: usize, limit: usize, at: Cursor, rule: R
 pub fn call(work: Work, rule: Rule) -> Called
     ensures { result ≡ hand_call work rule }
 {
-    let given = work.table;
-    let mut rows = given.rows;
-    let end = work.end;
-    let from = Cursor {
-        place: work.place,
-        mark: work.mark,
-        end,
-    };
-    let called = call_in(&mut rows, work.n, work.limit, from, rule);
-    let table = Table { rows };
-    let at = called.at;
-    let answer = called.answer;
-    let end = at.end;
+    let mut rows = work.table.rows;
+    let called = call_in(&mut rows, work.n, work.limit, Cursor::of(work), rule);
     Called {
-        answer,
-        work: work.moved(table, at.place, at.mark, end),
+        answer: called.answer,
+        work: called.at.state(work, rows),
         removed: called.removed,
     }
 }

@@ -1,17 +1,18 @@
 // A rule that strikes legs: a sweep, a chain step, or a pass with a seed. The seed is a station's number, from 1.
-ghost use Rattle.std.specs.Prelude.{false, ◌≡◌, ◌≤◌, length};
+ghost use Rattle.std.specs.Prelude.{false, ◌≡◌, ◌≤◌};
 ghost use Rattle.circuit.specs.Legs.{columns};
 ghost use Rattle.circuit.specs.State.{stray};
-ghost use Rattle.circuit.specs.inner.Tables.{Square, Columned};
+ghost use Rattle.circuit.specs.inner.Tables.{Square};
 ghost use Rattle.filter.specs.Rule.{says, stray_seed, rule_at};
 ghost use Rattle.filter.specs.inner.Steps.{RowsLeft, TableLeft};
 
 use crate::chaining::chain_rows;
 use crate::passing::pass_on;
 use crate::sweeping::sweep_rows;
+use circuit::Network;
 use separator::Taken;
 
-#[derive(Clone, Copy)]
+#[derive(Clone, Copy, Debug, PartialEq, Eq)]
 pub enum Rule {
     Sweep,
     Chain,
@@ -24,8 +25,7 @@ impl Rule {
         ensures { result ≡ stray_seed n self }
     {
         match self {
-            Rule::Sweep => false,
-            Rule::Chain => false,
+            Rule::Sweep | Rule::Chain => false,
             Rule::Pass(seed) => bitset::outside(1, n, seed),
         }
     }
@@ -34,13 +34,11 @@ impl Rule {
     pub(crate) fn at_place(place: usize) -> Rule
         ensures { result ≡ rule_at place }
     {
-        if place == 0 {
-            return Rule::Sweep;
+        match place {
+            0 => Rule::Sweep,
+            1 => Rule::Chain,
+            _ => Rule::Pass(place - 1),
         }
-        if place == 1 {
-            return Rule::Chain;
-        }
-        Rule::Pass(place - 1)
     }
 }
 
@@ -54,43 +52,41 @@ fn renew(cols: &mut [u64; 64], rows: &[u64; 64], n: usize, struck: bool)
     }
 }
 
-// Strikes what the rule strikes, and keeps the columns in step with the rows.
-pub(crate) fn take_on(
-    rule: Rule,
-    rows: &mut [u64; 64],
-    cols: &mut [u64; 64],
-    n: usize,
-    limit: usize,
-) -> Taken
-    requires { (2 ≤ n) × (n ≤ 64) × (stray_seed n rule ≡ false) × Columned n rows.old cols.old }
-    ensures { TableLeft n (says rule n rows.old limit) result rows.old rows.new cols.new }
+// Strikes what the rule strikes, from the columns as from the rows.
+// By hand, here and in `take`: a match on the rule, as in the definition `says` of specs/Rule; a closure for the two arms of three lines would be no plainer.
+pub(crate) fn take_on(rule: Rule, net: &mut Network, limit: usize) -> Taken
+    requires { (2 ≤ net.old.n) × (stray_seed net.old.n rule ≡ false) }
+    ensures { (net.new.n ≡ net.old.n) × TableLeft (says rule net.old.n net.old.rows limit) result net.old.rows net.new.rows }
 {
     match rule {
         Rule::Sweep => {
-            let taken = sweep_rows(rows, n);
-            renew(cols, rows, n, taken.struck);
+            let taken = sweep_rows(&mut net.rows, net.n);
+            renew(&mut net.cols, &net.rows, net.n, taken.struck);
             taken
         }
         Rule::Chain => {
-            let taken = chain_rows(rows, n);
-            renew(cols, rows, n, taken.struck);
+            let taken = chain_rows(&mut net.rows, net.n);
+            renew(&mut net.cols, &net.rows, net.n, taken.struck);
             taken
         }
-        Rule::Pass(seed) => pass_on(rows, cols, n, limit, seed - 1),
+        Rule::Pass(seed) => pass_on(net, limit, seed - 1),
     }
 }
 
 // The same on the rows alone: only a pass needs the columns.
 pub(crate) fn take(rule: Rule, rows: &mut [u64; 64], n: usize, limit: usize) -> Taken
-    requires { (2 ≤ n) × (n ≤ 64) × (stray_seed n rule ≡ false) × (length rows.old ≡ 64) × (stray n rows.old ≡ false) }
+    requires { (2 ≤ n) × (n ≤ 64) × (stray_seed n rule ≡ false) × (stray n rows.old ≡ false) }
     ensures { RowsLeft n (says rule n rows.old limit) result rows.old rows.new }
 {
     match rule {
         Rule::Sweep => sweep_rows(rows, n),
         Rule::Chain => chain_rows(rows, n),
         Rule::Pass(seed) => {
-            let mut cols = circuit::columns(rows, n);
-            pass_on(rows, &mut cols, n, limit, seed - 1)
+            let mut net = Network::of(rows, n);
+            let taken = pass_on(&mut net, limit, seed - 1);
+            let left = net.rows;
+            *rows = left;
+            taken
         }
     }
 }

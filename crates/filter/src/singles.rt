@@ -5,6 +5,7 @@ ghost use Rattle.filter.specs.inner.Singles.{single, sole_in, SinglesOf};
 
 // Of the first rows of a table: some row is empty; the members of some row, the stations with a leg in, and of two rows; and the same of the rows
 // with one member only.
+// By hand, no Option: the other fields say what they say where a row is empty too.
 #[derive(Clone, Copy)]
 pub(crate) struct Singles {
     pub(crate) empty: bool,
@@ -49,16 +50,13 @@ pub(crate) fn single_words(rows: &[u64; 64], n: usize) -> Singles
     let mut again = 0u64;
     let mut once = 0u64;
     let mut twice = 0u64;
-    let mut k = 0usize;
-    while k < n {
-        let row = rows[k];
+    for &row in &rows[..n] {
         let w = only_member(row);
-        empty = empty | (row == 0);
+        empty |= row == 0;
         again |= reached & row;
         reached |= row;
         twice |= once & w;
         once |= w;
-        k += 1;
     }
     Singles {
         empty,

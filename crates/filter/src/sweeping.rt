@@ -15,9 +15,10 @@ fn taken(row: u64, next: Singles) -> u64
     ensures { result ≡ cond (single row) next.twice next.once }
 {
     if is_single(row) {
-        return next.twice;
+        next.twice
+    } else {
+        next.once
     }
-    next.once
 }
 
 // What the sweep leaves of a row; `sole` has the stations with one leg in.
@@ -37,24 +38,21 @@ fn swept_row(row: u64, next: Singles, sole: u64) -> u64
 
 // Sweeps each row. Answers whether a leg went.
 fn sweep_words(rows: &mut [u64; 64], n: usize, next: Singles, sole: u64) -> bool
-    requires { (n ≤ 64) × (length rows.old ≡ 64) × (stray n rows.old ≡ false) × SinglesOf n rows.old next × (sole ≡ set_of 64 (sole_in next)) }
+    requires { (n ≤ 64) × (stray n rows.old ≡ false) × SinglesOf n rows.old next × (sole ≡ set_of 64 (sole_in next)) }
     ensures { (rows.new ≡ swept n rows.old) × (result ≡ false → rows.new ≡ rows.old) }
 {
     let mut struck = false;
-    let mut i = 0usize;
-    while i < n {
-        let row = rows[i];
-        let left = swept_row(row, next, sole);
-        struck = struck | (left != row);
-        rows[i] = left;
-        i += 1;
+    for row in &mut rows[..n] {
+        let left = swept_row(*row, next, sole);
+        struck |= left != *row;
+        *row = left;
     }
     struck
 }
 
 // The sweep on the rows. Where no station has one leg only, no leg goes.
 pub(crate) fn sweep_rows(rows: &mut [u64; 64], n: usize) -> Taken
-    requires { (n ≤ 64) × (length rows.old ≡ 64) × (stray n rows.old ≡ false) }
+    requires { (n ≤ 64) × (stray n rows.old ≡ false) }
     ensures { RowsLeft n (sweep n rows.old) result rows.old rows.new }
 {
     let next = single_words(rows, n);

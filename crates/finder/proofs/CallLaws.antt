@@ -18,12 +18,11 @@ use Rattle.circuit.proofs.StateLaws.{good}
 use Rattle.circuit.proofs.CheckLaws.{round_list}
 use Rattle.finder.specs.declared.outcome.Outcome.{Outcome}
 use Rattle.finder.specs.declared.outcome.Outcome.TheVariants.{Found, NoRound, UsedUp}
-use Rattle.finder.specs.declared.outcome.Part.{Part}
 use Rattle.finder.specs.declared.outcome.Sought.{Sought}
 use Rattle.finder.specs.Search.{node, search_from, whole}
 use Rattle.finder.specs.Call.{outcome_code, outcome_of, nodes_of, list_after, refused, first_call, first_list}
 use Rattle.finder.specs.Claims.{enough, Finds, NodeBudgets}
-use Rattle.finder.specs.inner.Parts.{Within, within, given}
+use Rattle.finder.specs.inner.Parts.{Within, within}
 use Rattle.finder.proofs.NodeLaws.{root}
 use Rattle.finder.proofs.SearchLaws.{Tells, some_node, search_tells, search_deep, before}
 use Rattle.finder.proofs.WithinLaws.{fits?, within_all, within_off, within_cases, nodes_most}
@@ -193,7 +192,7 @@ node_budgets w b old =
 
 -- ---- what the code computes
 
-pub call_code : (w : Work) (b : ℕ) (old : List ℕ) (p : Part) (new : List ℕ) → bad w ≡ false → length old ≡ w.n
-    → given p new ≡ within b (search_from w.n (node w (rows_of w))) old → record { sought = record { answer = Taken; outcome = p.outcome; nodes = b - p.left }; list = new } ≡ answered w b old
+pub call_code : (w : Work) (b : ℕ) (old : List ℕ) (p : Within) → bad w ≡ false → length old ≡ w.n
+    → p ≡ within b (search_from w.n (node w (rows_of w))) old → taken b p ≡ answered w b old
 unfolding whole
-call_code w b old p new o l e = ap (taken b) e ∙ sym (call_taken w b old o l)
+call_code w b old p o l e = ap (taken b) e ∙ sym (call_taken w b old o l)

@@ -7,7 +7,6 @@ use Prim.Native.Nat.{ℕ, zero, suc, ◌-◌, ◌≤◌, ◌<◌, zero-le}
 use native.Mathlib.Omega.{arith}
 use native.Mathlib.Nat.{eq-or-lt_of_le, le_of_suc-le-suc, le_of_eq, not-suc-le-zero, le_refl}
 use lib.Dec.{eqb}
-use lib.ListN.{length}
 use lib.Count.{count_trailing_zeros}
 use borrow.Author.Tests.{eqb-true, eqb-false}
 use Rattle.bitset.specs.Sets.{has}
@@ -16,7 +15,6 @@ use Rattle.bitset.proofs.BoolLaws.{cases, clash, not_both}
 use Rattle.bitset.proofs.HasLaws.{has_zero}
 use Rattle.bitset.proofs.LeastLaws.{trailing_least}
 use Rattle.bitset.proofs.QuantLaws.{below?}
-use Rattle.bitset.proofs.UptoLaws.{length_upto}
 use Rattle.circuit.specs.declared.state.Work.{Work}
 use Rattle.circuit.specs.Legs.{leg}
 use Rattle.circuit.specs.Round.{RoundOf}
@@ -51,10 +49,6 @@ module _ (w : Work) where
   unfolding search_from
   some_node zero = omega arith
   some_node (suc u) = omega arith
-
-pub list_length : (n : ℕ) (t : List ℕ) → length (list_in n t) ≡ n
-unfolding list_in
-list_length n t = length_upto n (λ i. suc (count_trailing_zeros 64 (row t i)))
 
 pub leaf_yes : (v : Work) → (check_call v (list_in v.n (rows_of v))).yes ≡ true → leaf v ≡ record { found = true; list = list_in v.n (rows_of v); nodes = 0 }
 unfolding leaf

@@ -7,7 +7,7 @@ use Prim.Native.Nat.{ℕ, zero, suc, ◌-◌, ◌^◌, ◌<◌}
 use native.Mathlib.Omega.{arith}
 use lib.Bits.{bit_and, and_le_l}
 use lib.Count.{count_trailing_zeros}
-use lib.ListN.{set, length}
+use lib.ListN.{set}
 use Rattle.bitset.specs.Sets.{has}
 use Rattle.bitset.specs.Upto.{row}
 use Rattle.bitset.proofs.BoolLaws.{cases, and_l}
@@ -17,14 +17,19 @@ use Rattle.circuit.specs.Legs.{leg}
 use Rattle.circuit.specs.State.{is_none, rows_of}
 use Rattle.circuit.specs.Check.{check_call}
 use Rattle.finder.specs.declared.outcome.Outcome.TheVariants.{Found, NoRound, UsedUp}
-use Rattle.finder.specs.declared.outcome.Part.{Part}
+use Rattle.finder.specs.declared.search.Finder.{Finder}
 use Rattle.finder.specs.Search.{Search, nothing, entered, and_then, children, settled, decided, list_in, leaf, search_from}
 use Rattle.finder.specs.inner.Nodes.{node_at, stable_at, Begun, Settles}
-use Rattle.finder.specs.inner.Parts.{is_no_round, Within, within, given}
+use Rattle.finder.specs.inner.Finders.{Kept}
+use Rattle.finder.specs.inner.Parts.{is_no_round, Within, within}
 use Rattle.finder.proofs.ChildrenLaws.{children_lowest, children_empty}
 use Rattle.finder.proofs.NodeLaws.{settled_word, forced, decided_begun}
 use Rattle.finder.proofs.SearchLaws.{search_end, search_leaf, search_below, some_node, leaf_yes, leaf_no}
 use Rattle.finder.proofs.WithinLaws.{within_all, within_off, within_nothing, within_enter, within_next, within_stop}
+
+-- what one call after the other keeps
+pub kept_then : {f g h : Finder} → Kept f g → Kept g h → Kept f h
+kept_then a b = record { n = b.n ∙ a.n; limit = b.limit ∙ a.limit; same_reference = b.same_reference ∙ a.same_reference }
 
 leaf_nodes : (v : Work) → (leaf v).nodes ≡ 0
 leaf_nodes v =
@@ -91,27 +96,26 @@ module _ (n limit : ℕ) where
     pub word : r < 2 ^ 64
     pub among : (j : ℕ) → has r j ≡ true → has r₀ j ≡ true
     pub same : within b (below u t d r) list ≡ within b₀ (below u t d r₀) old
-    pub len : length list ≡ n
 
   module _ (u : ℕ) (t : List ℕ) (d b₀ r₀ : ℕ) (old : List ℕ) where
-    pub rest_start : r₀ < 2 ^ 64 → length old ≡ n → Rest u t d b₀ r₀ old b₀ r₀ old
-    rest_start h l = record { word = h; among = λ j e. e; same = refl; len = l }
+    pub rest_start : r₀ < 2 ^ 64 → Rest u t d b₀ r₀ old b₀ r₀ old
+    rest_start h = record { word = h; among = λ j e. e; same = refl }
 
     module _ (b r : ℕ) (list : List ℕ) (R : Rest u t d b₀ r₀ old b r list) where
       pub rest_end : r ≡ 0 → record { outcome = NoRound; left = b; list = list } ≡ within b₀ (below u t d r₀) old
       rest_end e =
           sym (within_nothing b list) ∙ ap (λ (s : Search). within b s list) (sym (ap (below u t d) e ∙ children_empty (λ j. search_from (u - 1) (child t d j)) 64 0)) ∙ R.same
 
-      -- the lowest child, at the rows and the word that the code has of it, gives p and leaves the list new
-      module _ (some : 0 < r) (now : List ℕ) (only : ℕ) (is : now ≡ t) (one : only ≡ 2 ^ count_trailing_zeros 64 r) (p : Part) (new : List ℕ)
-          (g : given p new ≡ within b (search_from (u - 1) (node_at n limit (set now d only))) list) where
+      -- the lowest child, at the rows and the word that the code has of it, gives p
+      module _ (some : 0 < r) (now : List ℕ) (only : ℕ) (is : now ≡ t) (one : only ≡ 2 ^ count_trailing_zeros 64 r) (p : Within)
+          (g : p ≡ within b (search_from (u - 1) (node_at n limit (set now d only))) list) where
         first : Search
         first = search_from (u - 1) (child t d (count_trailing_zeros 64 r))
 
         others : Search
         others = below u t d (bit_and r (r - 1))
 
-        gives : given p new ≡ within b first list
+        gives : p ≡ within b first list
         unfolding first
         gives = g ∙ ap₂ (λ (x : List ℕ) (y : ℕ). within b (search_from (u - 1) (node_at n limit (set x d y))) list) is one
 
@@ -120,18 +124,17 @@ module _ (n limit : ℕ) where
         split = ap (λ (s : Search). within b s list) (sym (children_lowest (λ j. search_from (u - 1) (child t d j)) r some R.word)) ∙ R.same
 
         -- it has no round: on to the next
-        pub rest_next : is_no_round p.outcome ≡ true → length new ≡ n → Rest u t d b₀ r₀ old p.left (bit_and r (r - 1)) new
+        pub rest_next : is_no_round p.outcome ≡ true → Rest u t d b₀ r₀ old p.left (bit_and r (r - 1)) p.list
         unfolding others
-        rest_next e l =
+        rest_next e =
             record {
               word = omega (arith, and_le_l r (r - 1), R.word);
               among = λ j m. R.among j (and_l (has r j) _ (sym (has_clear 64 r j some R.word) ∙ m));
               same = ap (λ (x : Within). within x.left others x.list) gives ∙ sym (within_next b first others list (ap (λ (x : Within). is_no_round x.outcome) (sym gives) ∙ e)) ∙ split;
-              len = l;
             }
 
         -- it has one, or the budget is used up
-        pub rest_stop : is_no_round p.outcome ≡ false → given p new ≡ within b₀ (below u t d r₀) old
+        pub rest_stop : is_no_round p.outcome ≡ false → p ≡ within b₀ (below u t d r₀) old
         rest_stop e = gives ∙ sym (within_stop b first others list (ap (λ (x : Within). is_no_round x.outcome) (sym gives) ∙ e)) ∙ split
 
   -- ---- the children of a node whose run does not end none

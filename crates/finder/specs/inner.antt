@@ -1,3 +1,4 @@
 -- What functions promise each other.
 pub mod Nodes
 pub mod Parts
+pub mod Finders

@@ -11,7 +11,7 @@ ghost use Rattle.finder.specs.Call.{first_call, first_list};
 
 use circuit::{Answer, Work};
 pub use outcome::{Outcome, Sought};
-use search::descend;
+use search::Finder;
 
 // The round whose list of next stations comes first, within a budget of nodes. The list is written only where one is found.
 pub fn first_round(work: Work, budget: u32, list: &mut [u8]) -> Sought
@@ -20,18 +20,21 @@ pub fn first_round(work: Work, budget: u32, list: &mut [u8]) -> Sought
     if work.is_bad() {
         return Sought::refused(Answer::BadWork);
     }
-    let n = work.n;
-    if list.len() != n {
+    if list.len() != work.n {
         return Sought::refused(Answer::WrongLength);
     }
-    let table = work.table;
-    let mut rows = table.rows;
-    let mut spare = [0u64; 64];
-    let part = descend(&mut rows, &mut spare, n, work.limit, false, n, budget, list);
-    let outcome = part.outcome;
+    let mut rows = work.table.rows;
+    let mut finder = Finder {
+        n: work.n,
+        limit: work.limit,
+        left: budget,
+        spare: [0u64; 64],
+        list,
+    };
+    let outcome = finder.descend(&mut rows, false, work.n);
     Sought {
         answer: Answer::Taken,
         outcome,
-        nodes: budget - part.left,
+        nodes: budget - finder.left,
     }
 }

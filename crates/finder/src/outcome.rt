@@ -6,7 +6,7 @@ ghost use Rattle.finder.specs.inner.Parts.{is_no_round};
 use circuit::Answer;
 
 // How a search came out.
-#[derive(Clone, Copy)]
+#[derive(Clone, Copy, Debug, PartialEq, Eq)]
 pub enum Outcome {
     Refused,
     Found,
@@ -14,6 +14,7 @@ pub enum Outcome {
     UsedUp,
 }
 
+// By hand, no Result: `first_call` of specs/Call gives the outcome and the count of a refusal too.
 #[derive(Clone, Copy)]
 pub struct Sought {
     pub answer: Answer,
@@ -21,36 +22,19 @@ pub struct Sought {
     pub nodes: u32,
 }
 
-// A part of the search: how it came out, and what is left of the node budget.
-#[derive(Clone, Copy)]
-pub struct Part {
-    pub outcome: Outcome,
-    pub left: u32,
-}
-
 impl Outcome {
     // Its code for callers in other languages.
     pub fn code(self) -> u32
         ensures { result ≡ outcome_code self }
     {
-        match self {
-            Outcome::Refused => 0,
-            Outcome::Found => 1,
-            Outcome::NoRound => 2,
-            Outcome::UsedUp => 3,
-        }
+        self as u32
     }
 
     // Does the search go on to the next part?
     pub fn is_no_round(self) -> bool
         ensures { result ≡ is_no_round self }
     {
-        match self {
-            Outcome::Refused => false,
-            Outcome::Found => false,
-            Outcome::NoRound => true,
-            Outcome::UsedUp => false,
-        }
+        matches!(self, Outcome::NoRound)
     }
 }
 

@@ -8,7 +8,8 @@ use circuit::{Answer, End, Table, Work};
 use filter::Rule;
 
 // What a preview hands back: the legs that would go, the end that would follow, and the state as it was given.
-#[derive(Clone, Copy)]
+// By hand, no Result: a refusal hands all of these back too (`preview_call` of specs/Call).
+#[derive(Clone, Copy, Debug, PartialEq, Eq)]
 pub struct Previewed {
     pub answer: Answer,
     pub work: Work,
@@ -21,20 +22,12 @@ pub fn preview(work: Work, rule: Rule) -> Previewed
     ensures { result ≡ preview_call work rule }
 {
     let called = filter::call(work, rule);
-    let answer = called.answer;
-    let after = called.work;
-    let end = after.end;
-    let given = work.table;
-    let standing = given.rows;
-    let table = after.table;
-    let left = table.rows;
-    let rows = circuit::difference(&standing, &left);
-    let legs = Table { rows };
+    let rows = circuit::difference(&work.table.rows, &called.work.table.rows);
     Previewed {
-        answer,
+        answer: called.answer,
         work,
-        legs,
-        end,
+        legs: Table { rows },
+        end: called.work.end,
     }
 }
 

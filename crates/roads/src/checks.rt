@@ -1,41 +1,29 @@
 // Is a table two-way, and are its must-drive roads roads of it?
-ghost use Rattle.std.specs.Prelude.{◌≡◌, not, ◌||◌, ◌^◌, ◌≤◌, ◌<◌};
-ghost use Rattle.bitset.specs.Sets.{has, all};
+ghost use Rattle.std.specs.Prelude.{◌≡◌, ◌≤◌};
 ghost use Rattle.circuit.specs.inner.Tables.{Square};
 ghost use Rattle.roads.specs.Cut.{mirrored, inside, is_two_way, are_roads};
 
 // A table is its own transpose where each leg has its reverse.
+// Here and below every word is looked at: a loop that stops early (`==` of slices, `all`) is not vectorised, which took longer.
 fn is_mirrored(rows: &[u64; 64], n: usize) -> bool
     requires { (n ≤ 64) × Square n rows.now }
     ensures { result ≡ mirrored n rows.now }
 {
     let cols = circuit::columns(rows, n);
     let mut ok = true;
-    let mut i = 0usize;
-    while i < n {
+    for i in 0..n {
         ok = ok & (rows[i] == cols[i]);
-        i += 1;
     }
     ok
 }
 
-// Is each member of a one of b?
-// That a word has 64 bits is known of parameters, and not of elements.
-fn is_part(a: u64, b: u64) -> bool
-    ensures { (result ≡ all 64 (λ j. not (has a j) || has b j)) × (a < 2 ^ 64) }
-{
-    a & !b == 0
-}
-
 // Is each must-drive leg a leg of the table?
 fn is_inside(must: &[u64; 64], rows: &[u64; 64]) -> bool
-    ensures { (result ≡ inside must.now rows.now) × Square 64 must.now }
+    ensures { result ≡ inside must.now rows.now }
 {
     let mut ok = true;
-    let mut i = 0usize;
-    while i < 64 {
-        ok = ok & is_part(must[i], rows[i]);
-        i += 1;
+    for i in 0..64 {
+        ok = ok & (must[i] & !rows[i] == 0);
     }
     ok
 }
@@ -45,16 +33,12 @@ pub fn is_two_way(rows: &[u64; 64], n: usize) -> bool
     requires { (n ≤ 64) × Square n rows.now }
     ensures { result ≡ is_two_way n rows.now }
 {
-    if n < 3 {
-        return false;
-    }
-    is_mirrored(rows, n)
+    n >= 3 && is_mirrored(rows, n)
 }
 
 // Does every must-drive road stand, and is it given both ways (else 12)?
 pub fn are_roads(rows: &[u64; 64], must: &[u64; 64]) -> bool
     ensures { result ≡ are_roads rows.now must.now }
 {
-    let inside = is_inside(must, rows);
-    inside & is_mirrored(must, 64)
+    is_inside(must, rows) && is_mirrored(must, 64)
 }

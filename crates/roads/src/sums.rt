@@ -1,109 +1,92 @@
 // The splits with at most three roads: sums of up to three words of a spanning tree.
-ghost use Rattle.std.specs.Prelude.{◌≡◌, ◌&&◌, ℕ, ◌+◌, ◌-◌, ◌^◌, ◌<◌, ◌≤◌, length};
+ghost use Rattle.std.specs.Prelude.{◌≡◌, ◌&&◌, ℕ, ◌+◌, ◌-◌, ◌^◌, ◌<◌, ◌≤◌};
 ghost use Rattle.std.specs.Int.Bits.{bit_xor};
 ghost use Rattle.bitset.specs.Sets.{any};
 ghost use Rattle.bitset.specs.Upto.{row};
+ghost use Rattle.circuit.specs.Legs.{difference};
 ghost use Rattle.roads.specs.Cut.{split, some_split};
 ghost use Rattle.roads.specs.inner.Trees.{tried, three};
 ghost use Rattle.roads.specs.inner.Promises.{Profile, Marked};
 
-use crate::marking::judge;
+use crate::marking::Marks;
 use crate::tree::spanning;
 
-// The sums of y and a word up to b. A split that says that there is no round ends the search, here and in the functions below.
-fn try_third(
-    words: &[u64; 64],
-    rows: &[u64; 64],
-    must: &[u64; 64],
-    n: usize,
-    all: u64,
-    y: u64,
-    b: usize,
-    force: &mut [u64; 64],
-    drop: &mut [u64; 64],
-) -> bool
-    requires { Profile n rows.now must.now × (b < 64) × (all ≡ 2 ^ n - 1) × (y < 2 ^ n) × ((i : ℕ) → i ≤ b → row words.now i < 2 ^ n)
-        × (length force.old ≡ 64) × (length drop.old ≡ 64) }
-    ensures { Marked n rows.now must.now force.old drop.old result force.new drop.new
-        (λ f. any (b + 1) (λ a. split n (bit_xor y (row words.now a)) && f (bit_xor y (row words.now a)))) }
-{
-    let mut a = 0usize;
-    while a <= b {
-        let x = y ^ words[a];
-        if judge(rows, must, n, all, x, force, drop) {
-            return true;
-        }
-        a += 1;
-    }
-    false
+// What the search for splits reads: a two-way table of n stations, its must-drive roads, and the words of a spanning tree.
+#[derive(Drop)]
+pub(crate) struct Search<'a> {
+    pub(crate) n: usize,
+    // The n stations.
+    pub(crate) all: u64,
+    pub(crate) rows: &'a [u64; 64],
+    pub(crate) must: &'a [u64; 64],
+    // The roads that are not must-drive.
+    pub(crate) free: &'a [u64; 64],
+    pub(crate) words: &'a [u64; 64],
+    ghost profile: { Profile n rows.now must.now },
+    ghost whole: { all ≡ 2 ^ n - 1 },
+    ghost others: { free.now ≡ difference rows.now must.now },
+    ghost small: { (i : ℕ) → i < n → row words.now i < 2 ^ n },
 }
 
-// The sums of word c, one before it, and one up to that.
-fn try_second(
-    words: &[u64; 64],
-    rows: &[u64; 64],
-    must: &[u64; 64],
-    n: usize,
-    all: u64,
-    c: usize,
-    force: &mut [u64; 64],
-    drop: &mut [u64; 64],
-) -> bool
-    requires { Profile n rows.now must.now × (c < 64) × (all ≡ 2 ^ n - 1) × ((i : ℕ) → i ≤ c → row words.now i < 2 ^ n)
-        × (length force.old ≡ 64) × (length drop.old ≡ 64) }
-    ensures { Marked n rows.now must.now force.old drop.old result force.new drop.new
-        (λ f. any c (λ b. any (b + 1) (λ a. split n (three (row words.now) c b a) && f (three (row words.now) c b a)))) }
-{
-    let mut b = 0usize;
-    while b < c {
-        let y = words[c] ^ words[b];
-        if try_third(words, rows, must, n, all, y, b, force, drop) {
-            return true;
+impl Search<'_> {
+    // The sums of y and a word up to b. A split that says that there is no round ends the search, here and in the functions below.
+    fn try_third(&self, y: u64, b: usize, marks: &mut Marks) -> bool
+        requires { (b < self.now.n) × (y < 2 ^ self.now.n) }
+        ensures { Marked self.now.n self.now.rows.now self.now.must.now marks.old result marks.new
+            (λ f. any (b + 1) (λ a. split self.now.n (bit_xor y (row self.now.words.now a)) && f (bit_xor y (row self.now.words.now a)))) }
+    {
+        for a in 0..b + 1 {
+            let x = y ^ self.words[a];
+            if self.judge(x, marks) {
+                return true;
+            }
         }
-        b += 1;
+        false
     }
-    false
-}
 
-// The sums of up to three of the n words: word 0 is empty.
-fn try_all(
-    words: &[u64; 64],
-    rows: &[u64; 64],
-    must: &[u64; 64],
-    n: usize,
-    all: u64,
-    force: &mut [u64; 64],
-    drop: &mut [u64; 64],
-) -> bool
-    requires { Profile n rows.now must.now × (all ≡ 2 ^ n - 1) × ((i : ℕ) → i < n → row words.now i < 2 ^ n) × (length force.old ≡ 64) × (length drop.old ≡ 64) }
-    ensures { Marked n rows.now must.now force.old drop.old result force.new drop.new (tried n (row words.now) n) }
-{
-    let mut c = 0usize;
-    while c < n {
-        if try_second(words, rows, must, n, all, c, force, drop) {
-            return true;
+    // The sums of word c, one before it, and one up to that.
+    fn try_second(&self, c: usize, marks: &mut Marks) -> bool
+        requires { c < self.now.n }
+        ensures { Marked self.now.n self.now.rows.now self.now.must.now marks.old result marks.new
+            (λ f. any c (λ b. any (b + 1) (λ a. split self.now.n (three (row self.now.words.now) c b a) && f (three (row self.now.words.now) c b a)))) }
+    {
+        for b in 0..c {
+            let y = self.words[c] ^ self.words[b];
+            if self.try_third(y, b, marks) {
+                return true;
+            }
         }
-        c += 1;
+        false
     }
-    false
+
+    // The sums of up to three of the n words: word 0 is empty.
+    fn try_all(&self, marks: &mut Marks) -> bool
+        ensures { Marked self.now.n self.now.rows.now self.now.must.now marks.old result marks.new (tried self.now.n (row self.now.words.now) self.now.n) }
+    {
+        for c in 0..self.n {
+            if self.try_second(c, marks) {
+                return true;
+            }
+        }
+        false
+    }
 }
 
 // Marks what all splits say. Does one say that there is no round?
-pub(crate) fn mark_all(
-    rows: &[u64; 64],
-    must: &[u64; 64],
-    n: usize,
-    force: &mut [u64; 64],
-    drop: &mut [u64; 64],
-) -> bool
-    requires { Profile n rows.now must.now × (length force.old ≡ 64) × (length drop.old ≡ 64) }
-    ensures { Marked n rows.now must.now force.old drop.old result force.new drop.new (some_split n) }
+pub(crate) fn mark_all(rows: &[u64; 64], must: &[u64; 64], n: usize, marks: &mut Marks) -> bool
+    requires { Profile n rows.now must.now }
+    ensures { Marked n rows.now must.now marks.old result marks.new (some_split n) }
 {
-    let mut words = [0u64; 64];
-    let seen = spanning(rows, n, &mut words);
-    let all = bitset::full(n);
-    if seen != all {
+    let Some(words) = spanning(rows, n) else {
         return true;
-    }
-    try_all(&words, rows, must, n, all, force, drop)
+    };
+    let search = Search {
+        n,
+        all: bitset::full(n),
+        rows,
+        must,
+        free: &circuit::difference(rows, must),
+        words: &words,
+    };
+    search.try_all(marks)
 }

@@ -1,5 +1,5 @@
 -- What the functions of the chain step promise each other. p is the list of the next stations of the words that are walked.
-use Rattle.std.specs.Prelude.{◌≡◌, Bool, true, false, cond, not, ◌&&◌, ◌||◌, List, ℕ, pred, ◌<◌, ltb}
+use Rattle.std.specs.Prelude.{◌≡◌, Bool, true, false, cond, not, ◌&&◌, ◌||◌, List, ℕ, pred, ◌<◌, ltb, Option, MatchOption}
 use Rattle.std.specs.Int.Bits.{bit_and}
 use Rattle.bitset.specs.Sets.{has, any}
 use Rattle.bitset.specs.Upto.{upto, row}
@@ -16,13 +16,17 @@ compulsory_word word sole = cond (single word) word (bit_and word sole)
 abbrev pub compulsory_words : ℕ → List ℕ → ℕ → List ℕ
 compulsory_words n rows sole = upto 64 (λ i. cond (ltb i n) (compulsory_word (row rows i) sole) 0)
 
--- m is the table of the compulsory legs. They are told where no two leave or enter one station
+-- m is the table of the compulsory legs, of which no two leave or enter one station
 pub record CompulsoryOf (n : ℕ) (m : List ℕ) (r : CompulsoryLegs) (words : List ℕ) : Type 0 where
-  pub fork : r.forked ≡ forked n m
-  pub legs : r.forked ≡ false → words ≡ columns n m
+  pub unforked : forked n m ≡ false
+  pub legs : words ≡ columns n m
   -- the stations that one leaves, and those that one enters
-  pub leave : r.forked ≡ false → (k : ℕ) → k < 64 → has r.leave k ≡ ltb 0 (row m k)
-  pub enter : r.forked ≡ false → (k : ℕ) → k < 64 → has r.enter k ≡ ltb 0 (row (columns n m) k)
+  pub leave : (k : ℕ) → k < 64 → has r.leave k ≡ ltb 0 (row m k)
+  pub enter : (k : ℕ) → k < 64 → has r.enter k ≡ ltb 0 (row (columns n m) k)
+
+-- they are told where no two leave or enter one station
+abbrev pub CompulsoryTold : ℕ → List ℕ → Option CompulsoryLegs → List ℕ → Type 0
+CompulsoryTold n m r words = MatchOption r (forked n m ≡ true) (λ legs. CompulsoryOf n m legs words)
 
 -- the leg b→a is in the word of b, an end
 abbrev pub closed : ℕ → List ℕ → ℕ → ℕ → Bool

@@ -6,7 +6,6 @@ use Rattle.circuit.specs.declared.verdict.Verdict.{Verdict}
 use Rattle.circuit.specs.Legs.{neighbours}
 use Rattle.circuit.specs.State.{is_none, rows_of, state, moved, stray}
 use Rattle.circuit.specs.Verdict.{leaves}
-use Rattle.circuit.specs.inner.Tables.{TableTaken}
 use Rattle.separator.specs.Level.{level}
 use Rattle.filter.specs.declared.cycle.Cursor.{Cursor}
 use Rattle.filter.specs.declared.cycle.Ran.{Ran}
@@ -30,16 +29,15 @@ abbrev pub LevelsBelow : ℕ → ℕ → List ℕ → Type 0
 LevelsBelow n count level = (k : ℕ) → k < count → get_or level k 0 < 2 ^ n
 
 -- the verdict v of the rows t was taken on them; where no leg is said to have gone, they are still t
-pub record RowsLeft (n : ℕ) (v : Verdict) (r : Taken) (t rows : List ℕ) : Type 0 where
+pub record TableLeft (v : Verdict) (r : Taken) (t rows : List ℕ) : Type 0 where
   pub verdict : v ≡ record { none = r.none; left = rows }
-  pub clean : stray n rows ≡ false
-  pub len : length rows ≡ 64
   pub same : r.struck ≡ false → rows ≡ t
 
--- the same on the rows and their columns
-pub record TableLeft (n : ℕ) (v : Verdict) (r : Taken) (t rows cols : List ℕ) : Type 0 where
-  pub taken : TableTaken n v r.none rows cols
-  pub same : r.struck ≡ false → rows ≡ t
+-- the same on rows alone: what a network says of its own is said of them
+pub record RowsLeft (n : ℕ) (v : Verdict) (r : Taken) (t rows : List ℕ) : Type 0 where
+  pub table : TableLeft v r t rows
+  pub clean : stray n rows ≡ false
+  pub len : length rows ≡ 64
 
 -- the passes whose seeds are in the word leave the table as it is
 abbrev pub IdleSeeds : ℕ → ℕ → List ℕ → ℕ → Type 0

@@ -18,25 +18,30 @@ returns-then-is_bad c =
     let t = call_bad a.work a.budget a.list.now (sym c.is_bad.ensures ∙ c.if-is_bad.true) in
     (c.refused.ensures ∙ sym (ap (λ (x : Answered). x.sought) t), sym (ap (λ (x : Answered). x.list) t))
 
-pub returns-then-list-n : goal.returns-then-list-n
-returns-then-list-n c =
+pub returns-then-list-work : goal.returns-then-list-work
+returns-then-list-work c =
     let a = c.args in
-    let t = call_long a.work a.budget a.list.now (sym c.is_bad.ensures ∙ c.if-is_bad.false) c.if-list-n.true in
-    (c.refused-then-list-n.ensures ∙ sym (ap (λ (x : Answered). x.sought) t), sym (ap (λ (x : Answered). x.list) t))
+    let t = call_long a.work a.budget a.list.now (sym c.is_bad.ensures ∙ c.if-is_bad.false) c.if-list-work.true in
+    (c.refused-then-list-work.ensures ∙ sym (ap (λ (x : Answered). x.sought) t), sym (ap (λ (x : Answered). x.list) t))
 
-pub descend-part-requires : goal.descend-part-requires
-descend-part-requires c =
+pub invariant_of-finder : goal.invariant_of-finder
+invariant_of-finder c =
+    let o : bad c.args.work ≡ false = sym c.is_bad.ensures ∙ c.if-is_bad.false in
+    record { most = (good c.args.work o).most; long = c.if-list-work.false }
+
+pub descend-outcome-requires : goal.descend-outcome-requires
+descend-outcome-requires c =
     let w = c.args.work in
     let o : bad w ≡ false = sym c.is_bad.ensures ∙ c.if-is_bad.false in
     let long : length (rows_of w) ≡ 64 = search rules in
-    (root_begun w (good w o) long, (λ q. clash (sym q)), omega arith, c.if-list-n.false)
+    (root_begun w (good w o) long, (λ q. clash (sym q)), omega arith)
 
 pub overflow_sub-result : goal.overflow_sub-result
-overflow_sub-result c = let e = ap (λ (x : Within). x.left) c.descend-part.ensures in omega (arith, e)
+overflow_sub-result c = let e = ap (λ (x : Within). x.left) c.descend-outcome.ensures.outcome in omega (arith, e)
 
 pub returns : goal.returns
 returns c =
     let a = c.args in
     let o : bad a.work ≡ false = sym c.is_bad.ensures ∙ c.if-is_bad.false in
-    let t = call_code a.work a.budget a.list.now _ _ o c.if-list-n.false c.descend-part.ensures in
-    (ap (λ (x : Answered). x.sought) t, ap (λ (x : Answered). x.list) t)
+    let t = call_code a.work a.budget a.list.now _ o c.if-list-work.false c.descend-outcome.ensures.outcome in
+    (ap (λ (x : Answered). x.sought) t, search rules ∙ ap (λ (x : Answered). x.list) t)

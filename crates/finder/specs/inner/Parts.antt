@@ -2,7 +2,6 @@
 use Rattle.std.specs.Prelude.{Bool, true, false, List, ℕ, ◌-◌}
 use Rattle.finder.specs.declared.outcome.Outcome.{Outcome}
 use Rattle.finder.specs.declared.outcome.Outcome.TheVariants.{Refused, Found, NoRound, UsedUp}
-use Rattle.finder.specs.declared.outcome.Part.{Part}
 use Rattle.finder.specs.Search.{Search}
 use Rattle.finder.specs.Call.{outcome_of, nodes_of, list_after}
 
@@ -22,7 +21,3 @@ pub record Within : Type 0 where
 -- the part s within a budget of b nodes, where the list held old
 abbrev pub within : ℕ → Search → List ℕ → Within
 within b s old = record { outcome = outcome_of b s; left = b - nodes_of b s; list = list_after b s old }
-
--- what a function hands back and the list that it leaves
-abbrev pub given : Part → List ℕ → Within
-given p list = record { outcome = p.outcome; left = p.left; list = list }

@@ -1,14 +1,11 @@
-use mathlib.Core.Path.{◌≡◌, sym, ap, ◌∙◌}
+use mathlib.Core.Path.{◌≡◌, sym, ◌∙◌}
 use Prim.Native.Nat.{◌<◌}
 use native.Mathlib.Omega.{arith}
 use lib.Count.{ones}
 use lib.Dec.{ltb}
-use lib.ListN.{length}
 use borrow.Author.Tests.{ltb-false}
 use Rattle.bitset.specs.Upto.{row}
 use Rattle.bitset.proofs.BoolLaws.{or_false_l}
-use Rattle.bitset.proofs.UptoLaws.{length_upto}
-use Rattle.circuit.specs.Legs.{col}
 use Rattle.circuit.specs.inner.Tables.{Square}
 use Rattle.filter.specs.inner.Chains.{compulsory_words}
 use Rattle.filter.proofs.CompulsoryLaws.{words_at, words_square, words_beyond}
@@ -37,8 +34,7 @@ returns-then-clashes c =
 pub add_leg-requires : goal.add_leg-requires
 add_leg-requires c =
     let w = c.compulsory_word-w.result in
-    let v = c.loop-i in
-    (omega (arith, low (goal.at.add_leg-requires c).In-loop-i, c.requires.0), ap length v.invariant.legs ∙ length_upto 64 (col v.i (compulsory_words c.args.n c.args.rows.now c.args.sole)), ltb-false 1 (ones w) (or_false_l (ltb 1 (ones w)) _ (sym c.clashes.ensures ∙ c.if-clashes.false)))
+    (omega (arith, low (goal.at.add_leg-requires c).In-loop-i, c.requires.0), ltb-false 1 (ones w) (or_false_l (ltb 1 (ones w)) _ (sym c.clashes.ensures ∙ c.if-clashes.false)))
 
 pub loop-i-preserved : goal.loop-i-preserved
 loop-i-preserved c =

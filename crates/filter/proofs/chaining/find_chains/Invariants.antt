@@ -1,8 +1,7 @@
--- `filter::find_chains` meets its contract. The measure is how many ends are left.
+-- `filter::find_chains` meets its contract.
 use mathlib.Core.Bool.{Bool}
 use mathlib.Core.List.{List}
 use Prim.Native.Nat.{ℕ, pred}
-use lib.Count.{ones}
 use Rattle.filter.specs.Chain.{nexts, joined}
 use Rattle.filter.proofs.FindLaws.{Finding}
 use Rattle.filter.proofs.chaining.find_chains.Given as goal
@@ -11,8 +10,5 @@ use Rattle.filter.proofs.chaining.find_chains.Given as goal
 abbrev pub ways : ℕ → List ℕ → ℕ → ℕ → Bool
 ways n prev = joined n (nexts n prev) (pred (pred n))
 
-abbrev pub invariant-loop-rest : goal.invariant-loop-rest
-invariant-loop-rest l = Finding l.n (ways l.n l.prev) l.into l.ends l.rest l.closing l.met
-
-abbrev pub decreases-loop-rest : goal.decreases-loop-rest
-decreases-loop-rest l = ones l.rest
+abbrev pub invariant-loop-b : goal.invariant-loop-b
+invariant-loop-b l = Finding l.n (ways l.n l.prev) l.into l.ends l.b-iterator.rest l.closing l.met

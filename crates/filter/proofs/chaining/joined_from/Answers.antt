@@ -7,32 +7,23 @@ use Rattle.filter.proofs.WalkLaws.{walked_start, walked_turn, walked_out}
 use Rattle.filter.proofs.chaining.joined_from.Goals as goal
 
 pub loop-k-init : goal.loop-k-init
-loop-k-init c = (omega arith, c.requires, walked_start _ _)
+loop-k-init c = (c.requires, walked_start _ _)
 
 pub returns-then-w-eq0 : goal.returns-then-w-eq0
 returns-then-w-eq0 c =
     let v = c.loop-k in
     let a = c.args in
-    λ n. walked_out a.legs.now a.a v.k v.at v.met v.invariant.2 a.most n v.invariant.0 (omega arith)
-
-pub lowest-at-requires : goal.lowest-at-requires
-lowest-at-requires c = omega arith
-
-pub overflow_cast-at : goal.overflow_cast-at
-overflow_cast-at c = omega (arith, c.lowest-at.ensures.1.below)
-
-pub overflow_shl-met : goal.overflow_shl-met
-overflow_shl-met c = omega (arith, c.lowest-at.ensures.1.below)
+    λ n. walked_out a.legs.now a.a v._k v.at v.met v.invariant.1 a.most n (omega arith) (omega arith)
 
 pub loop-k-preserved : goal.loop-k-preserved
 loop-k-preserved c =
     let v = c.loop-k in
     let t = c.lowest-at in
-    (omega arith, t.ensures.1.below, walked_turn _ _ v.k v.at v.met v.invariant.2 t.result (omega arith) t.ensures.0)
+    (t.ensures.1.below, walked_turn _ _ v._k v.at v.met v.invariant.1 t.result (omega arith) t.ensures.0)
 
 pub returns : goal.returns
 returns c =
     let v = c.loop-k in
     let a = c.args in
-    let at-end : v.k ≡ a.most = omega (arith, v.invariant.0) in
-    λ n le l sq. (v.invariant.2 n le l sq).2 ∙ ap (λ (k : ℕ). set_of n (joined n (nexts n a.legs.now) k a.a)) at-end
+    let at-end : v._k ≡ a.most = omega arith in
+    λ n le l sq. (v.invariant.1 n le l sq).2 ∙ ap (λ (k : ℕ). set_of n (joined n (nexts n a.legs.now) k a.a)) at-end

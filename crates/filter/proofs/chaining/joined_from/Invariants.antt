@@ -1,10 +1,7 @@
 -- `filter::joined_from` meets its contract: after k turns, k legs are walked.
-use Prim.Native.Nat.{◌-◌, ◌≤◌, ◌<◌}
+use Prim.Native.Nat.{◌<◌}
 use Rattle.filter.proofs.WalkLaws.{Walked}
 use Rattle.filter.proofs.chaining.joined_from.Given as goal
 
 abbrev pub invariant-loop-k : goal.invariant-loop-k
-invariant-loop-k l = (l.k ≤ l.most) × (l.at < 64) × Walked l.legs l.a l.k l.at l.met
-
-abbrev pub decreases-loop-k : goal.decreases-loop-k
-decreases-loop-k l = l.most - l.k
+invariant-loop-k l = (l.at < 64) × Walked l.legs l.a l._k l.at l.met

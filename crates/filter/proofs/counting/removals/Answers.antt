@@ -12,5 +12,5 @@ pub returns-then-struck : goal.returns-then-struck
 returns-then-struck c = c.legs_gone.ensures
 
 -- the table stayed
-pub returns : goal.returns
-returns c = let same = ap (legs c.args.n) (c.requires.4 c.if-struck.false) in omega (arith, same)
+pub returns-else-struck : goal.returns-else-struck
+returns-else-struck c = let same = ap (legs c.args.n) (c.requires.4 c.if-struck.false) in omega (arith, same)

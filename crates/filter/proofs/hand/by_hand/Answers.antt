@@ -10,22 +10,22 @@ use Rattle.filter.proofs.hand.by_hand.Goals.{After-take-taken}
 use Rattle.filter.proofs.hand.by_hand.Goals as goal
 
 says : (c : After-take-taken) → verdict (state_at c.args.n c.args.rows.now c.args.limit c.args.at) c.args.rule ≡ (record { none = c.take-taken.result.none; left = c.take-taken.new.rows })
-says c = c.take-taken.ensures.verdict
+says c = c.take-taken.ensures.table.verdict
 
 sound : (c : After-take-taken) → let w = (state_at c.args.n c.args.rows.now c.args.limit c.args.at) in Sound All w.n (rows_of w) (record { none = c.take-taken.result.none; left = c.take-taken.new.rows })
 sound c = let w = (state_at c.args.n c.args.rows.now c.args.limit c.args.at) in
-    subst (Sound All w.n (rows_of w)) (says c) (says_sound c.args.rule w.n (rows_of w) w.limit c.requires.0.most c.requires.2)
+    subst (Sound All w.n (rows_of w)) (says c) (says_sound c.args.rule w.n (rows_of w) w.limit c.requires.0.most c.requires.1)
 
 pub take-taken-requires : goal.take-taken-requires
 take-taken-requires c =
     let g = c.requires.0 in
-    (g.two, g.most, c.requires.2, c.requires.1, g.table)
+    (g.two, g.most, c.requires.1, g.table)
 
 pub by_verdict-requires : goal.by_verdict-requires
 by_verdict-requires c =
     let g = c.requires.0 in
     let L = c.take-taken.ensures in
-    (g.most, g.table, c.requires.1, L.len, (sound (goal.at.by_verdict-requires c).After-take-taken).sub, L.same, c.requires.3)
+    (g.most, g.table, (sound (goal.at.by_verdict-requires c).After-take-taken).sub, L.table.same, c.requires.2)
 
 pub returns : goal.returns
 returns c =

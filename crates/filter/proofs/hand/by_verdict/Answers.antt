@@ -15,7 +15,7 @@ pub removals-removed-requires : goal.removals-removed-requires
 removals-removed-requires c =
     let a = c.args in
     let p = c.requires in
-    (p.0, p.1, stray_sub a.n a.before.now a.left.now p.4 p.1, p.4, p.5)
+    (p.0, p.1, stray_sub a.n a.before.now a.left.now p.2 p.1, p.2, p.3)
 
 pub returns : goal.returns
 unfolding gone
@@ -27,5 +27,5 @@ returns c = λ limit.
     let v : Verdict = record { none = a.none; left = a.left.now } in
     let count : r.result ≡ gone w v = r.ensures in
     ap₂ (λ (u : Work) (k : ℕ). record { answer = Taken; work = u; removed = k })
-    (c.moved_by.ensures w v refl refl refl p.6 refl count (λ z. left_same w v p.0 p.1 p.2 p.3 p.4 (sym count ∙ z))) count
-    ∙ hand_is w v p.6
+    (c.moved_by.ensures w v refl refl refl p.4 refl count (λ z. left_same w v p.0 p.1 c.told-before c.told-left p.2 (sym count ∙ z))) count
+    ∙ hand_is w v p.4

@@ -1,48 +1,52 @@
 -- `filter::take_on` meets its contract.
-use mathlib.Core.Path.{sym, ap, ◌∙◌}
+use mathlib.Core.Path.{refl, sym, ap, ◌∙◌}
 use Rattle.circuit.specs.Legs.{columns}
 use Rattle.circuit.proofs.StateLaws.{stray_row_lem}
 use Rattle.filter.specs.declared.rule.Rule.{Rule}
 use Rattle.filter.specs.Rule.{says}
 use Rattle.filter.proofs.RuleLaws.{seed_least, seed_index, pass_says}
-use Rattle.filter.proofs.TakeLaws.{table_as, with_columns}
+use Rattle.filter.proofs.TakeLaws.{table_as}
 use Rattle.filter.proofs.rule.take_on.Goals as goal
-
-pub sweep_rows-taken-requires : goal.sweep_rows-taken-requires
-sweep_rows-taken-requires c = (c.requires.1, c.requires.3.len, c.requires.3.clean)
 
 pub renew-requires : goal.renew-requires
 renew-requires c =
+    let net = c.args.net.now in
     let L = c.sweep_rows-taken.ensures in
-    (c.requires.1, stray_row_lem _ _ c.requires.1 L.clean, λ e. c.requires.3.columns ∙ ap (columns c.args.n) (sym (L.same e)))
+    (net.most, stray_row_lem _ _ net.most L.clean, λ e. net.columned.columns ∙ ap (columns net.n) (sym (L.table.same e)))
 
-pub chain_rows-taken-requires : goal.chain_rows-taken-requires
-chain_rows-taken-requires c = (c.requires.0, c.requires.1, c.requires.3.len, c.requires.3.clean)
+pub invariant_of-net : goal.invariant_of-net
+invariant_of-net c =
+    record { most = c.args.net.now.most; columned = record { clean = c.sweep_rows-taken.ensures.clean; len = c.sweep_rows-taken.ensures.len; columns = c.renew.ensures } }
 
 pub renew-requires-in-Chain : goal.renew-requires-in-Chain
 renew-requires-in-Chain c =
+    let net = c.args.net.now in
     let L = c.chain_rows-taken.ensures in
-    (c.requires.1, stray_row_lem _ _ c.requires.1 L.clean, λ e. c.requires.3.columns ∙ ap (columns c.args.n) (sym (L.same e)))
+    (net.most, stray_row_lem _ _ net.most L.clean, λ e. net.columned.columns ∙ ap (columns net.n) (sym (L.table.same e)))
+
+pub invariant_of-net-in-Chain : goal.invariant_of-net-in-Chain
+invariant_of-net-in-Chain c =
+    record { most = c.args.net.now.most; columned = record { clean = c.chain_rows-taken.ensures.clean; len = c.chain_rows-taken.ensures.len; columns = c.renew-in-Chain.ensures } }
 
 pub overflow_sub-seed : goal.overflow_sub-seed
-overflow_sub-seed c = seed_least c.args.rule _ c.in-Pass.is c.args.n c.requires.2
+overflow_sub-seed c = seed_least c.args.rule _ c.in-Pass.is c.args.net.now.n c.requires.1
 
 pub pass_on-requires : goal.pass_on-requires
-pass_on-requires c =
-    (c.requires.1, seed_index c.args.rule _ c.in-Pass.is c.args.n c.requires.2, c.requires.3)
+pass_on-requires c = seed_index c.args.rule _ c.in-Pass.is c.args.net.now.n c.requires.1
 
 pub returns-in-Sweep : goal.returns-in-Sweep
 unfolding says
 returns-in-Sweep c =
-    let a = c.args in
-    table_as (ap (λ (r : Rule). says r a.n a.rows.now a.limit) (sym c.in-Sweep.is)) (with_columns c.sweep_rows-taken.ensures c.renew.ensures)
+    let net = c.args.net.now in
+    (refl, table_as (ap (λ (r : Rule). says r net.n net.rows c.args.limit) (sym c.in-Sweep.is)) c.sweep_rows-taken.ensures.table)
 
 pub returns-in-Chain : goal.returns-in-Chain
 unfolding says
 returns-in-Chain c =
-    let a = c.args in
-    table_as (ap (λ (r : Rule). says r a.n a.rows.now a.limit) (sym c.in-Chain.is)) (with_columns c.chain_rows-taken.ensures c.renew-in-Chain.ensures)
+    let net = c.args.net.now in
+    (refl, table_as (ap (λ (r : Rule). says r net.n net.rows c.args.limit) (sym c.in-Chain.is)) c.chain_rows-taken.ensures.table)
 
 pub returns-in-Pass : goal.returns-in-Pass
 returns-in-Pass c =
-    table_as (pass_says c.args.rule _ c.in-Pass.is c.args.n c.requires.2 c.args.rows.now c.args.limit) c.pass_on.ensures
+    let net = c.args.net.now in
+    (c.pass_on.ensures.0, table_as (pass_says c.args.rule _ c.in-Pass.is net.n c.requires.1 net.rows c.args.limit) c.pass_on.ensures.1)

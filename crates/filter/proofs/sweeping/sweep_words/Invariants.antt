@@ -1,13 +1,10 @@
--- `filter::sweep_words` meets its contract: the rows below i are swept, the others as they were; and all are, where no leg went.
+-- `filter::sweep_words` meets its contract: the rows so far are swept, the others as they were; and all are, where no leg went.
 use mathlib.Core.Path.{◌≡◌}
 use mathlib.Core.Bool.{false}
-use Prim.Native.Nat.{◌-◌, ◌≤◌}
+use lib.ListN.{take}
 use Rattle.bitset.proofs.UptoLaws.{Changed}
 use Rattle.filter.proofs.SweptLaws.{swept_row}
 use Rattle.filter.proofs.sweeping.sweep_words.Given as goal
 
-abbrev pub invariant-loop-i : goal.invariant-loop-i
-invariant-loop-i l = (l.i ≤ l.n) × Changed 64 (swept_row l.n l.initial.rows) l.initial.rows l.i l.rows × (l.struck ≡ false → l.rows ≡ l.initial.rows)
-
-abbrev pub decreases-loop-i : goal.decreases-loop-i
-decreases-loop-i l = l.n - l.i
+abbrev pub invariant-loop-row : goal.invariant-loop-row
+invariant-loop-row l = Changed l.n (swept_row l.n l.fn.rows) (take l.n l.fn.rows) l.row-index l.row-items × (l.struck ≡ false → l.row-items ≡ take l.n l.fn.rows)

@@ -6,5 +6,5 @@ use Rattle.filter.proofs.sweeping.taken.Goals as goal
 pub returns-then-is_single : goal.returns-then-is_single
 returns-then-is_single c = sym (cond_true _ _ (sym c.is_single.ensures ∙ c.if-is_single.true))
 
-pub returns : goal.returns
-returns c = sym (cond_false _ _ (sym c.is_single.ensures ∙ c.if-is_single.false))
+pub returns-else-is_single : goal.returns-else-is_single
+returns-else-is_single c = sym (cond_false _ _ (sym c.is_single.ensures ∙ c.if-is_single.false))

@@ -1,13 +1,13 @@
 -- `roads::are_roads` meets its contract. Assumes nothing.
-use mathlib.Core.Path.{ap₂}
+use mathlib.Core.Path.{sym, ap, ◌∙◌}
 use mathlib.Core.Bool.{Bool, ◌&&◌}
-use native.Mathlib.Omega.{arith}
-use Rattle.roads.specs.Cut.{are_roads}
+use Rattle.roads.specs.Cut.{mirrored, are_roads}
 use Rattle.roads.proofs.checks.are_roads.Goals as goal
 
-pub is_mirrored-requires : goal.is_mirrored-requires
-is_mirrored-requires c = (omega arith, c.is_inside-inside.ensures.1)
-
-pub returns : goal.returns
+pub returns-then-is_inside : goal.returns-then-is_inside
 unfolding are_roads
-returns c = ap₂ (λ (x y : Bool). x && y) c.is_inside-inside.ensures.0 c.is_mirrored.ensures
+returns-then-is_inside c = c.is_mirrored.ensures ∙ sym (ap (λ (b : Bool). b && mirrored 64 c.args.must.now) (sym c.is_inside.ensures ∙ c.if-is_inside.true))
+
+pub returns-else-is_inside : goal.returns-else-is_inside
+unfolding are_roads
+returns-else-is_inside c = c.if-is_inside.false ∙ sym (ap (λ (b : Bool). b && mirrored 64 c.args.must.now) (sym c.is_inside.ensures ∙ c.if-is_inside.false))

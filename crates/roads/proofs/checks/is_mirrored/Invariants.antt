@@ -1,13 +1,9 @@
 -- `roads::is_mirrored` meets its contract. The invariant: `ok` says whether the rows before i are the columns. Assumes nothing.
 use mathlib.Core.Path.{◌≡◌}
-use Prim.Native.Nat.{◌-◌, ◌≤◌}
 use lib.Dec.{eqb}
 use Rattle.bitset.specs.Upto.{row}
 use Rattle.bitset.specs.Sets.{all}
 use Rattle.roads.proofs.checks.is_mirrored.Given as goal
 
 abbrev pub invariant-loop-i : goal.invariant-loop-i
-invariant-loop-i l = (l.i ≤ l.n) × (l.ok ≡ all l.i (λ k. eqb (row l.rows k) (row l.cols k)))
-
-abbrev pub decreases-loop-i : goal.decreases-loop-i
-decreases-loop-i l = l.n - l.i
+invariant-loop-i l = l.ok ≡ all l.i (λ k. eqb (row l.rows k) (row l.cols k))

@@ -1,42 +1,49 @@
-use mathlib.Core.Path.{refl, ◌∙◌}
-use Prim.Native.Nat.{◌<◌}
+use mathlib.Core.Path.{◌≡◌, refl, sym, ◌∙◌, subst}
+use mathlib.Core.Bool.{true, false}
+use Prim.Native.Nat.{ℕ, ◌+◌, ◌^◌, ◌<◌}
 use native.Mathlib.Omega.{arith}
-use lib.ListN.{length-set}
-use lib.Seq.{get_or-set_same}
-use Rattle.roads.proofs.GrowLaws.{count_below, growing_more, growing_first, grown_of}
-use Rattle.roads.proofs.tree.spanning.Goals.{After-next_station-u}
+use lib.Bits.{bit_or}
+use Rattle.bitset.specs.Upto.{row}
+use Rattle.bitset.specs.Sets.{has}
+use Rattle.bitset.proofs.MachineLaws.{pow_set_of, full_set_of}
+use Rattle.roads.proofs.GrowLaws.{Growing, next_is, count_below, growing_more, growing_first, grown_all, grown_apart}
+use Rattle.roads.proofs.tree.spanning.Goals.{After-lowest-u}
 use Rattle.roads.proofs.tree.spanning.Goals as goal
 
 pub loop-p-init : goal.loop-p-init
-loop-p-init c = let l = c.requires.4 in
-    (length-set c.args.words.now 0 0 ∙ l, growing_first c.args.n c.args.rows.now c.outlet-p.result _ c.requires.0 (get_or-set_same c.args.words.now 0 0 0 (omega (arith, l))) c.outlet-p.ensures)
+loop-p-init c = growing_first c.args.n c.args.rows.now _ c.requires.0 refl
 
-pub next_station-u-requires : goal.next_station-u-requires
-next_station-u-requires c = c.loop-p.invariant.1.exit.leads c.loop-p-test.true
+-- the road from p leads to u, outside
+leads : (c : After-lowest-u) → (has (row c.args.rows.now c.in-Some.p) c.lowest-u.result ≡ true) × (has c.loop-p.seen c.lowest-u.result ≡ false)
+leads c = next_is _ c.loop-p.seen _ (omega arith) c.lowest-u.ensures.1
 
 -- there is room for a word more
-room : (c : After-next_station-u) → c.loop-p.count < 64
+room : (c : After-lowest-u) → c.loop-p.count < 64
 room c = let s = c.requires in
-    let e = c.next_station-u.ensures in
-    count_below s.1 s.2 s.3 c.loop-p.invariant.1 c.loop-p-test.true c.next_station-u.result e.1 e.2
+    let e = leads c in
+    count_below s.1 s.2 s.3 c.loop-p.invariant c.in-Some.p c.in-Some.ensures.1 c.lowest-u.result e.0 e.1
 
 pub join-requires : goal.join-requires
-join-requires c = (room (goal.at.join-requires c).After-next_station-u, omega (arith, c.requires.1, c.loop-p-test.true), c.next_station-u.ensures.0, c.loop-p.invariant.0)
-
-pub overflow_add-count : goal.overflow_add-count
-overflow_add-count c = omega (arith, room (goal.at.overflow_add-count c).After-next_station-u)
-
-pub with_station-seen-requires : goal.with_station-seen-requires
-with_station-seen-requires c = c.next_station-u.ensures.0
+join-requires c = (room (goal.at.join-requires c).After-lowest-u, c.in-Some.ensures.0, c.lowest-u.ensures.1.below)
 
 pub loop-p-smaller : goal.loop-p-smaller
-loop-p-smaller c = omega (arith, room (goal.at.loop-p-smaller c).After-next_station-u)
+loop-p-smaller c = omega (arith, room (goal.at.loop-p-smaller c).After-lowest-u)
 
 pub loop-p-preserved : goal.loop-p-preserved
 loop-p-preserved c = let s = c.requires in
-    let e = c.next_station-u.ensures in
-    let g = c.join.ensures in
-    (g.0, growing_more s.1 s.2 s.3 c.loop-p.invariant.1 c.loop-p-test.true c.next_station-u.result e.1 e.2 _ _ _ _ refl c.with_station-seen.ensures g.1 c.outlet-p-in-loop-p.ensures)
+    let e = leads (goal.at.loop-p-preserved c).After-lowest-u in
+    let u : ℕ = c.lowest-u.result in
+    let new : c.singleton-seen.result ≡ 2 ^ u = c.singleton-seen.ensures ∙ sym (pow_set_of 64 u c.lowest-u.ensures.1.below) in
+    subst (λ (w : ℕ). Growing c.args.n c.args.rows.now (c.loop-p.count + 1) (bit_or c.loop-p.seen w) (row c.join.new.words)) (sym new)
+    (growing_more s.1 s.2 s.3 c.loop-p.invariant c.in-Some.p c.in-Some.ensures.1 u e.0 e.1 _ c.join.ensures)
 
-pub returns : goal.returns
-returns c = grown_of _ _ _ c.loop-p.count _ c.loop-p.p (omega (arith, c.loop-p-test.false)) c.loop-p.invariant.1
+pub returns-then-seen-full : goal.returns-then-seen-full
+returns-then-seen-full c =
+    grown_all c.args.n c.args.rows.now _ _ _ c.loop-p.invariant (c.if-seen-full.true ∙ c.full.ensures ∙ sym (full_set_of 64 c.args.n c.requires.1))
+
+pub returns-else-seen-full : goal.returns-else-seen-full
+returns-else-seen-full c = (
+  c.loop-p.seen,
+  grown_apart c.args.n c.args.rows.now _ _ _ c.requires.1 c.loop-p.invariant c.in_default.ensures
+      (λ e. c.if-seen-full.false (e ∙ full_set_of 64 c.args.n c.requires.1 ∙ sym c.full.ensures)),
+)
