@@ -1,13 +1,15 @@
 -- The texts as the writers put them together. Assumes nothing.
-use mathlib.Core.Path.{◌≡◌, sym, ap, ap₂, ◌∙◌}
+use Rattle.std.proofs.Common.{codes}
+use mathlib.Core.Path.{◌≡◌, refl, sym, ap, ap₂, ◌∙◌}
 use mathlib.Core.Logic.{inl, inr, ⊎_elim}
 use mathlib.Core.Bool.{true, false}
-use mathlib.Core.List.{List, [], ◌++◌, append_assoc, append-nil}
-use Prim.Native.Nat.{ℕ, ◌≤◌, zero-le}
+use mathlib.Core.List.{List, [], ◌++◌, append-nil}
+use Prim.Native.Nat.{ℕ, ◌+◌, ◌≤◌, zero-le}
 use Prim.Native.String.{String}
 use native.Mathlib.Omega.{arith}
 use lib.Count.{ones}
 use lib.Dec.{eqb}
+use lib.ListN.{length, length-append}
 use borrow.Author.Tests.{eq-eqb, ne_eqb, eqb-true}
 use Rattle.bitset.proofs.BoolLaws.{cases, cond_true, cond_false, cond_elim}
 use Rattle.bitset.specs.Sets.{sum}
@@ -15,6 +17,8 @@ use Rattle.bitset.specs.Upto.{row}
 use Rattle.writer.specs.Text.{ascii, decimal}
 use Rattle.circuit.specs.declared.state.Work.{Work}
 use Rattle.circuit.specs.declared.card.Answer.TheVariants.{Taken}
+use Rattle.circuit.specs.declared.card.End.{End}
+use Rattle.circuit.specs.declared.card.End.TheVariants.{Open, Stable, None}
 use Rattle.circuit.specs.Card.{number, word}
 use Rattle.circuit.specs.State.{is_none, rows_of, Good}
 use Rattle.circuit.proofs.CardLaws.{number_one}
@@ -32,22 +36,34 @@ use Rattle.report.specs.Lines.{lines_from, text}
 use Rattle.output.specs.Program.{opened_line, steps_line, ran_line, station_lines, pruned, taken_text, refused_line, opened_text, program_text, Says, refused, none, stable}
 use Rattle.output.specs.inner.Prints.{shown}
 
-regroup : (x a b c : List ℕ) → x ++ (a ++ b ++ c) ≡ x ++ a ++ b ++ c
-regroup x a b c = simp append_assoc
+-- the word of an end
+pub word_codes : (e : End) → codes (word e) ≡ ascii (word e)
+word_codes Open = refl
+word_codes Stable = refl
+word_codes None = refl
 
 -- line 1: the legs by the bits that are set
-pub opened_line_lem : (w : Work) → Good w → (k : ℕ) → k ≡ sum 64 (λ i. ones (row (rows_of w) i))
-    → ascii "stations " ++ decimal w.n ++ ascii " legs " ++ decimal k ++ ascii "\n" ≡ opened_line w
+abbrev pub opened_fields : Work → ℕ → List ℕ
+opened_fields w k = ascii "stations " ++ decimal w.n ++ ascii " legs " ++ decimal k
+
+pub opened_line_lem : (w : Work) → Good w → (k : ℕ) → k ≡ sum 64 (λ i. ones (row (rows_of w) i)) → opened_fields w k ++ ascii "\n" ≡ opened_line w
 unfolding opened_line
 opened_line_lem w g k e =
     ap (λ (x : ℕ). ascii "stations " ++ decimal w.n ++ ascii " legs " ++ decimal x ++ ascii "\n") (e ∙ sym (legs_ones w.n (rows_of w) g.most g.table))
 
 -- line 2: the two numbers, and the end
-pub ran_line_lem : (r : Ran)
-    → (ascii "steps " ++ decimal r.steps ++ ascii " removed " ++ decimal r.removed) ++ (ascii " end " ++ ascii (word r.work.end) ++ ascii "\n") ≡ ran_line r
+abbrev pub ran_fields : Ran → List ℕ
+ran_fields r = ascii "steps " ++ decimal r.steps ++ ascii " removed " ++ decimal r.removed
+
+pub ran_line_lem : (r : Ran) → ran_fields r ++ ascii " end " ++ ascii (word r.work.end) ++ ascii "\n" ≡ ran_line r
 unfolding steps_line
-ran_line_lem r =
-    regroup (ascii "steps " ++ decimal r.steps ++ ascii " removed " ++ decimal r.removed) (ascii " end ") (ascii (word r.work.end)) (ascii "\n")
+ran_line_lem r = refl
+
+pub ran_size : (r : Ran) → length (ran_line r) ≡ length (ran_fields r) + length (ascii (word r.work.end)) + 6
+ran_size r = ap length (sym (ran_line_lem r)) ∙ three (ran_fields r) (ascii " end ") (ascii (word r.work.end)) (ascii "\n") (omega arith) (omega arith)
+  where
+    three : (a b c d : List ℕ) → length b ≡ 5 → length d ≡ 1 → length (a ++ b ++ c ++ d) ≡ length a + length c + 6
+    three a b c d p q = omega (arith, length-append (a ++ b ++ c) d, length-append (a ++ b) c, length-append a b)
 
 shown_lines : (w : Work) → lines_from (shown w) 0 (rows_of w) ≡ station_lines w
 unfolding station_lines text lines_from

@@ -12,6 +12,7 @@ use lib.Dec.{eqb, ltb}
 use lib.ListN.{length, length-append}
 use borrow.Author.Tests.{eq-eqb, ne_eqb, lt-ltb, le-ltb}
 use Rattle.bitset.specs.Sets.{digit, has, count, size}
+use Rattle.bitset.specs.inner.Members.{Parts}
 use Rattle.bitset.proofs.BoolLaws.{cond_true, cond_false}
 use Rattle.bitset.proofs.HasLaws.{has_zero}
 use Rattle.bitset.proofs.QuantLaws.{below?}
@@ -60,12 +61,14 @@ legs_from (suc m) k w v t g l member least rest = ⊎_elim here (λ h. later h (
         cond_false (leg_to k ++ legs_to m (suc k) w) _ (least k h) ∙ q
         ∙ ap (λ (l : List ℕ). leg_to t ++ l) (sym (cond_false (leg_to k ++ legs_to m (suc k) v) _ gone))
 
--- the walk by trailing zeros: the least leg, and those of the rest
-pub legs_least : (m w : ℕ) → 0 < w → w < 2 ^ m → legs_to m 0 w ≡ leg_to (count_trailing_zeros m w) ++ legs_to m 0 (bit_and w (w - 1))
-legs_least m w p h =
-    let g = trailing_least m w p h in
-    let below : count_trailing_zeros m w < 0 + m = omega (arith, g.below) in
-    legs_from m 0 w (bit_and w (w - 1)) (count_trailing_zeros m w) (omega arith) below g.member g.least (λ j. has_clear m w j p h)
+-- a step of the iterator over the members: the least leg, and those of the rest
+pub legs_parts : {w k v : ℕ} → w < 2 ^ 64 → Parts w k v → legs_to 64 0 w ≡ leg_to k ++ legs_to 64 0 v
+legs_parts {w} {k} {v} h p =
+    let g = trailing_least 64 w p.nonempty h in
+    let least : k ≡ count_trailing_zeros 64 w = p.least in
+    let others : v ≡ bit_and w (w - 1) = p.others in
+    rw (least, others) (legs_from 64 0 w (bit_and w (w - 1)) (count_trailing_zeros 64 w) (omega arith) (omega (arith, g.below)) g.member g.least
+    (λ j. has_clear 64 w j p.nonempty h))
 
 -- ---- the length: a leg takes two bytes, and from station 10 on a third one
 

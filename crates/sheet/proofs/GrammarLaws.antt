@@ -87,7 +87,7 @@ unfolding opened
 unknown_bit_refused n es m rest limit two most l fits h lo hi =
     let s = entries_bytes es (m ∷ rest) in
     let before = read_entries_lem n es (m ∷ rest) most fits in
-    let read = read_fault n (length es) s (m ∷ rest) es before (card 3) (m ∷ rest) l (record_unknown n (m ∷ rest) (omega arith) h).is in
+    let read = read_fault n (length es) s (m ∷ rest) es before (card 3) (m ∷ rest) l (record_unknown n 0 (m ∷ rest) (omega arith) h).is in
     let place : length (n ∷ s) - length (m ∷ rest) ≡ 1 + length (entries_bytes es []) = omega (arith, entries_size es (m ∷ rest)) in
     open_rest (n ∷ s) limit (not_outside 1 64 limit lo hi) (omega arith) (not_outside 2 64 n two most) ∙ rw read (ap (refused (card 3)) place)
 

@@ -5,10 +5,15 @@ use mathlib.Core.List.{List, [], ◌∷◌}
 use Prim.Native.Nat.{ℕ, ◌-◌, ◌≤◌, ◌<◌}
 use native.Mathlib.Nat.{not-suc-le-zero}
 use native.Mathlib.Omega.{arith}
+use lib.Dec.{eqb}
 use lib.ListN.{length, get_or, drop}
 use Rattle.bitset.specs.Sets.{outside}
 use Rattle.circuit.specs.declared.card.Answer.TheVariants.{CutSheet, BadCount, BadLimit}
 use Rattle.sheet.specs.Open.{read_rest, read_page, refused, opened, open_call}
+
+pub nonempty : (s : List ℕ) → eqb (length s) 0 ≡ false → 1 ≤ length s
+nonempty [] e = cc
+nonempty (b ∷ s) e = omega arith
 
 module _ (s : List ℕ) (limit : ℕ) where
   pub open_limit : outside 1 64 limit ≡ true → open_call s limit ≡ refused BadLimit 0

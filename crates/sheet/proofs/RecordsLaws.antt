@@ -19,7 +19,7 @@ use Rattle.circuit.specs.inner.Tables.{Square}
 use Rattle.circuit.specs.inner.Columns.{Corner}
 use Rattle.sheet.specs.Layout.{Entry, free, Page, given}
 use Rattle.sheet.specs.Open.{Got, got, fault, ◌then◌, read_entry, read_entries, read_end, read_rest, refused, taken, opened}
-use Rattle.sheet.specs.inner.Reader.{GotAt, FaultAt, next_of, prev_of, legal}
+use Rattle.sheet.specs.inner.Reader.{GotAt, FaultAt, next_of, prev_of, EmptyFrom, legal}
 use Rattle.sheet.proofs.TableLaws.{barred_of, mapped_at, legal_given}
 
 -- ---- i records, then k records
@@ -76,12 +76,20 @@ pub record SoFar (n : ℕ) (s next barred : List ℕ) (at i : ℕ) : Type 0 wher
   pub lengths : (length next ≡ 64) × (length barred ≡ 64)
   pub follow : take i next ≡ map next_of entries
   pub bars : take i barred ≡ map (barred_of n) entries
-  pub beyond : (k : ℕ) → i ≤ k → k < 64 → get_or barred k 0 ≡ 0
+  pub empty : EmptyFrom i next
+  pub beyond : EmptyFrom i barred
 
-pub so_far_none : (n : ℕ) (s next : List ℕ) → 1 ≤ length s → length next ≡ 64 → SoFar n s next (replicate 64 0) 1 0
+none_yet : EmptyFrom 0 (replicate 64 0)
+none_yet k _ l = get_or-replicate 64 k 0 0 l
+
+pub so_far_none : (n : ℕ) (s : List ℕ) → 1 ≤ length s → SoFar n s (replicate 64 0) (replicate 64 0) 1 0
 unfolding read_entries
-so_far_none n s next l e =
-    record { entries = []; count = refl; is = refl; within = l; lengths = (e, refl); follow = refl; bars = refl; beyond = λ k _ d. get_or-replicate 64 k 0 0 d }
+so_far_none n s l =
+    record { entries = []; count = refl; is = refl; within = l; lengths = (refl, refl); follow = refl; bars = refl; empty = none_yet; beyond = none_yet }
+
+-- the words beyond one that is stored
+empty_more : {i : ℕ} (t : List ℕ) (v : ℕ) → EmptyFrom i t → EmptyFrom (i + 1) (set t i v)
+empty_more {i} t v h k g l = get_or-set_other t i k v 0 (λ e. omega arith) ∙ h k (omega arith) l
 
 -- the word of one record more
 store : (f : Entry → ℕ) (es : List Entry) (e : Entry) (l : List ℕ) (i v : ℕ) → i < length l → take i l ≡ map f es → v ≡ f e
@@ -100,7 +108,8 @@ module _ {n : ℕ} {s next barred : List ℕ} {at i : ℕ} (h : SoFar n s next b
         lengths = (length-set next i v ∙ h.lengths.0, length-set barred i w ∙ h.lengths.1);
         follow = store next_of h.entries p.value next i v (omega (arith, h.lengths.0)) h.follow ev;
         bars = store (barred_of n) h.entries p.value barred i w (omega (arith, h.lengths.1)) h.bars ew;
-        beyond = λ k g d. get_or-set_other barred i k w 0 (λ e. omega arith) ∙ h.beyond k (omega arith) d;
+        empty = empty_more next v h.empty;
+        beyond = empty_more barred w h.beyond;
       }
 
   pub so_far_fault : {a : Answer} {k : ℕ} (limit : ℕ) → i < n → FaultAt (read_entry n (drop at s)) (drop at s) a k
@@ -113,7 +122,7 @@ module _ {n : ℕ} {s next barred : List ℕ} {at i : ℕ} (h : SoFar n s next b
   pub so_far_all : i ≡ n → SoFar n s next barred at n
   so_far_all e = subst (λ (k : ℕ). SoFar n s next barred at k) e h
 
-module _ {n : ℕ} {s next barred : List ℕ} {at : ℕ} (limit : ℕ) (h : SoFar n s next barred at n) where
+module _ {n : ℕ} {s next barred : List ℕ} {at : ℕ} (h : SoFar n s next barred at n) where
   abbrev page : Page
   page = record { stations = n; entries = h.entries }
 
@@ -128,16 +137,16 @@ module _ {n : ℕ} {s next barred : List ℕ} {at : ℕ} (limit : ℕ) (h : SoFa
           let rest = (2 ^ 64 - 1) - prev_of e in
           omega (arith, mapped_at (barred_of n) h.entries barred n h.count h.bars k l, and_le_l all rest, full_set_of 64 n le, pow_pos n)
 
-  pub so_far_over : at < length s → opened (length s) limit (read_rest n (drop 1 s)) ≡ refused Overhang at
+  pub so_far_over : (limit : ℕ) → at < length s → opened (length s) limit (read_rest n (drop 1 s)) ≡ refused Overhang at
   unfolding opened read_end
-  so_far_over l =
+  so_far_over limit l =
       let e : length s - suc (length (drop (suc at) s)) ≡ at = rw length-drop (omega arith) in
       rw (h.is, drop-cons s at 0 l) (ap (refused Overhang) e)
 
-  pub so_far_whole : length s ≤ at → n ≤ 64
+  pub so_far_whole : (limit : ℕ) → length s ≤ at → n ≤ 64
       → opened (length s) limit (read_rest n (drop 1 s)) ≡ taken n (table_of n (legal next barred)) limit
   unfolding opened read_end
-  so_far_whole l le =
+  so_far_whole limit l le =
       let t : table_of n (legal next barred) ≡ table_of n (given page) =
       legal_given page next barred le (mapped_at next_of h.entries next n h.count h.follow) (mapped_at (barred_of n) h.entries barred n h.count h.bars) in
       rw (h.is, drop_of_length-le s l, t)

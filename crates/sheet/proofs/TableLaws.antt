@@ -18,10 +18,11 @@ use Rattle.bitset.proofs.QuantLaws.{below?}
 use Rattle.bitset.proofs.HasLaws.{has_and, has_not}
 use Rattle.bitset.proofs.SetLaws.{set_of_lt, has_set_of, eq_set_of}
 use Rattle.bitset.proofs.UptoLaws.{Changed, changed_end, get_d_upto, upto_cong}
-use Rattle.circuit.specs.Legs.{columns, leg, col, table_of, full_table}
-use Rattle.circuit.proofs.LegsLaws.{row_in, row_out, table_of_ext}
+use Rattle.circuit.specs.Legs.{columns, leg, col, table_of}
+use Rattle.circuit.proofs.LegsLaws.{full_out, table_of_ext}
 use Rattle.sheet.specs.Layout.{Entry, Page, free, allows, fixes, entry_at, given}
-use Rattle.sheet.specs.inner.Reader.{next_of, prev_of, legal}
+use Rattle.circuit.specs.inner.Tables.{full_row}
+use Rattle.sheet.specs.inner.Reader.{next_of, prev_of, EmptyFrom, legal}
 
 -- row i of the table
 abbrev legal_row : ℕ → List ℕ → List ℕ → ℕ → ℕ
@@ -54,33 +55,29 @@ module _ (n i : ℕ) (next barred : List ℕ) (le : n ≤ 64) (h : i < 64) where
       ∙ ap₂ (λ (a b : Bool). a && b) (has_set_of n (λ j. not (eqb i j)) j k)
       (has_and (get_or next i 0) ((2 ^ 64 - 1) - bars) j ∙ ap (λ (b : Bool). has (get_or next i 0) j && b) (kept j k)))
 
-  row_is : bit_and (get_or (full_table n) i 0) allowed ≡ legal_row n next barred i
-  unfolding full_table
+  row_is : bit_and (full_row n i) allowed ≡ legal_row n next barred i
+  unfolding full_row
   row_is =
       ⊎_elim
       (λ (l : i < n).
-      ap (λ (w : ℕ). bit_and w allowed) (row_in n (λ i j. not (eqb i j)) i le l) ∙ row_inside ∙ sym (cond_true (set_of n (legal next barred i)) 0 (lt-ltb i n l)))
+      ap (λ (w : ℕ). bit_and w allowed) (cond_true (set_of n (λ j. not (eqb i j))) 0 (lt-ltb i n l)) ∙ row_inside ∙ sym (cond_true (set_of n (legal next barred i)) 0 (lt-ltb i n l)))
       (λ (g : n ≤ i).
-      ap (λ (w : ℕ). bit_and w allowed) (row_out n (λ i j. not (eqb i j)) i g) ∙ and_zero_l allowed ∙ sym (cond_false (set_of n (legal next barred i)) 0 (le-ltb i n g)))
+      ap (λ (w : ℕ). bit_and w allowed) (full_out n i g) ∙ and_zero_l allowed ∙ sym (cond_false (set_of n (legal next barred i)) 0 (le-ltb i n g)))
       (below? i n)
 
--- `rows[i] & next[i] & !cols[i]`
-abbrev pub struck_row : List ℕ → List ℕ → List ℕ → ℕ → ℕ
-struck_row rows next cols i = bit_and (get_or rows i 0) (bit_and (get_or next i 0) ((2 ^ 64 - 1) - get_or cols i 0))
+-- `full_row & (next[i] & !cols[i])`
+abbrev pub struck_row : ℕ → List ℕ → List ℕ → ℕ → ℕ
+struck_row n next cols i = bit_and (full_row n i) (bit_and (get_or next i 0) ((2 ^ 64 - 1) - get_or cols i 0))
 
--- the first n rows of the full table, struck; those beyond are empty before and after
-pub struck : {full cols rows : List ℕ} {i : ℕ} (n : ℕ) (next barred : List ℕ) → n ≤ 64 → n ≤ i → full ≡ full_table n → cols ≡ columns n barred
-    → Changed 64 (struck_row full next cols) full i rows → rows ≡ table_of n (legal next barred)
+-- the first n rows, struck; those beyond are empty before and after
+pub struck : {cols rows : List ℕ} {i : ℕ} (n : ℕ) (next barred : List ℕ) → n ≤ 64 → n ≤ i → cols ≡ columns n barred → EmptyFrom n next
+    → Changed 64 (struck_row n next cols) next i rows → rows ≡ table_of n (legal next barred)
 unfolding table_of
-struck {full} {cols} n next barred le g ef ec h =
-    changed_end 0 h (λ k m l. rw ef (beyond k (omega arith)))
-    ∙ rw (ef, ec) (upto_cong 64 (struck_row (full_table n) next (columns n barred)) (legal_row n next barred) (λ i l. row_is n i next barred le l))
+struck {cols} n next barred le g ec empty h =
+    changed_end 0 h (λ k m l. beyond k (omega arith) l) ∙ rw ec (upto_cong 64 (struck_row n next (columns n barred)) (legal_row n next barred) (λ i l. row_is n i next barred le l))
   where
-    beyond : (k : ℕ) → n ≤ k → get_or (full_table n) k 0 ≡ struck_row (full_table n) next cols k
-    beyond k g = rw (full_beyond k g) (sym (and_zero_l (bit_and (get_or next k 0) ((2 ^ 64 - 1) - get_or cols k 0))))
-      where
-        full_beyond : (k : ℕ) → n ≤ k → get_or (full_table n) k 0 ≡ 0
-        full_beyond k g = unfold full_table in row_out n (λ i j. not (eqb i j)) k g
+    beyond : (k : ℕ) → n ≤ k → k < 64 → get_or next k 0 ≡ struck_row n next cols k
+    beyond k m l = empty k m l ∙ sym (rw (full_out n k m) (and_zero_l (bit_and (get_or next k 0) ((2 ^ 64 - 1) - get_or cols k 0))))
 
 -- ---- the words of a page
 

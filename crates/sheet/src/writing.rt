@@ -1,12 +1,12 @@
 // The sheet of what is left, written into a lent buffer.
 ghost use Rattle.std.specs.Prelude.{◌≡◌, [], ◌≤◌, ◌<◌, ◌^◌, length};
-ghost use Rattle.writer.specs.inner.Writer.{Wrote};
+ghost use Rattle.writer.specs.inner.Writer.{HasRoom, Appended};
 ghost use Rattle.circuit.specs.inner.Tables.{Square};
-ghost use Rattle.sheet.specs.Layout.{bytes, entry_bytes, entries_bytes, bytes_of};
+ghost use Rattle.sheet.specs.Layout.{entry_bytes, entries_bytes, bytes_of};
 ghost use Rattle.sheet.specs.Write.{entry_of, page_of};
 ghost use Rattle.sheet.specs.inner.Writing.{said};
 
-use writer::put_byte;
+use writer::Writer;
 
 // The fields of a record that is written: none, the fixed next station alone, or the next set alone.
 #[derive(Clone, Copy)]
@@ -21,13 +21,13 @@ fn fields_of(n: usize, legs: u64) -> Fields
     requires { (1 ≤ n) × (n ≤ 64) × (legs < 2 ^ n) }
     ensures { said result ≡ entry_of n legs }
 {
-    let count = u64::count_ones(legs) as usize;
+    let count = legs.count_ones() as usize;
     if count == n - 1 {
         return Fields::Free;
     }
     let single = count == 1;
     if single {
-        return Fields::Fixed(u64::trailing_zeros(legs) as u8 + 1);
+        return Fields::Fixed(legs.trailing_zeros() as u8 + 1);
     }
     Fields::Next(legs)
 }
@@ -43,82 +43,52 @@ fn record_len(fields: Fields) -> usize
     }
 }
 
-// A word as 8 bytes, little-endian.
-fn put_word(buf: &mut [u8], word: u64) -> usize
-    requires { 8 ≤ length buf.old }
-    ensures { Wrote (bytes 8 word []) buf.old buf.new result }
-{
-    let mut rest = word;
-    let mut at = 0usize;
-    while at < 8 {
-        at += put_byte(&mut buf[at..], (rest % 256) as u8);
-        rest /= 256;
-    }
-    at
-}
-
-// The record with the fixed station: its map, and the field.
-fn put_fixed(buf: &mut [u8], station: u8) -> usize
-    requires { 2 ≤ length buf.old }
-    ensures { Wrote (entry_bytes (said (Fields.Fixed station)) []) buf.old buf.new result }
-{
-    let at = put_byte(buf, 4);
-    at + put_byte(&mut buf[at..], station)
-}
-
-// The record with the next set.
-fn put_next(buf: &mut [u8], set: u64) -> usize
-    requires { 9 ≤ length buf.old }
-    ensures { Wrote (entry_bytes (said (Fields.Next set)) []) buf.old buf.new result }
-{
-    let at = put_byte(buf, 1);
-    at + put_word(&mut buf[at..], set)
-}
-
-fn put_record(buf: &mut [u8], fields: Fields) -> usize
-    requires { length (entry_bytes (said fields) []) ≤ length buf.old }
-    ensures { Wrote (entry_bytes (said fields) []) buf.old buf.new result }
+// The record: its map, and its field.
+fn put_record(out: &mut Writer, fields: Fields)
+    requires { HasRoom (entry_bytes (said fields) []) out.old }
+    ensures { Appended (entry_bytes (said fields) []) out.old out.new }
 {
     match fields {
-        Fields::Free => put_byte(buf, 0),
-        Fields::Fixed(station) => put_fixed(buf, station),
-        Fields::Next(set) => put_next(buf, set),
+        Fields::Free => out.byte(0),
+        Fields::Fixed(station) => {
+            out.byte(4);
+            out.byte(station);
+        }
+        Fields::Next(set) => {
+            out.byte(1);
+            out.text(&set.to_le_bytes());
+        }
     }
 }
 
-// The records of n stations, each into what is left of the buffer.
-fn put_records(buf: &mut [u8], n: usize, rows: &[u64; 64]) -> usize
-    requires { (n ≤ 64) × Square n rows.now × (length (entries_bytes (page_of n rows.now).entries []) ≤ length buf.old) }
-    ensures { Wrote (entries_bytes (page_of n rows.now).entries []) buf.old buf.new result }
+// The records of n stations.
+fn put_records(out: &mut Writer, n: usize, rows: &[u64; 64])
+    requires { (n ≤ 64) × Square n rows.now × HasRoom (entries_bytes (page_of n rows.now).entries []) out.old }
+    ensures { Appended (entries_bytes (page_of n rows.now).entries []) out.old out.new }
 {
-    let mut at = 0usize;
-    let mut i = 0usize;
-    while i < n {
-        at += put_record(&mut buf[at..], fields_of(n, rows[i]));
-        i += 1;
+    for row in &rows[..n] {
+        put_record(out, fields_of(n, *row));
     }
-    at
 }
 
 // The sheet: the number of stations, then the records.
-pub(crate) fn put_sheet(buf: &mut [u8], n: usize, rows: &[u64; 64]) -> usize
-    requires { (n ≤ 64) × Square n rows.now × (length (bytes_of (page_of n rows.now)) ≤ length buf.old) }
-    ensures { Wrote (bytes_of (page_of n rows.now)) buf.old buf.new result }
+pub(crate) fn put_sheet(out: &mut Writer, n: usize, rows: &[u64; 64])
+    requires { (n ≤ 64) × Square n rows.now × HasRoom (bytes_of (page_of n rows.now)) out.old }
+    ensures { Appended (bytes_of (page_of n rows.now)) out.old out.new }
 {
-    let at = put_byte(buf, n as u8);
-    at + put_records(&mut buf[at..], n, rows)
+    out.byte(n as u8);
+    put_records(out, n, rows);
 }
 
 // Its length, known before a byte is written.
+// By hand, here, in `put_records` and in `put_sheet`: `Square` is one word of a clause, and a type for it would be built at each of the three calls.
 pub(crate) fn sheet_len(n: usize, rows: &[u64; 64]) -> usize
     requires { (n ≤ 64) × Square n rows.now }
     ensures { result ≡ length (bytes_of (page_of n rows.now)) }
 {
-    let mut len = 1usize;
-    let mut i = 0usize;
-    while i < n {
-        len += record_len(fields_of(n, rows[i]));
-        i += 1;
+    let mut len = 1;
+    for row in &rows[..n] {
+        len += record_len(fields_of(n, *row));
     }
     len
 }

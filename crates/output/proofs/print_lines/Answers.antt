@@ -1,7 +1,8 @@
 -- `output::print_lines` meets its contract. Assumes nothing.
-use mathlib.Core.Path.{◌≡◌}
+use borrow.Author.Rules.{rules}
+use mathlib.Core.Path.{◌≡◌, ◌∙◌}
 use mathlib.Core.List.{◌++◌}
-use Prim.Native.Nat.{◌+◌}
+use Prim.Native.Nat.{◌+◌, ◌≤◌}
 use native.Mathlib.Omega.{arith}
 use lib.ListN.{length, length-append}
 use Rattle.writer.proofs.WriterLaws.{wrote_then}
@@ -11,8 +12,8 @@ use Rattle.output.proofs.print_lines.Goals.{Start}
 use Rattle.output.proofs.print_lines.Goals as goal
 
 -- how long the text is
-size : (c : Start) → length (c.args.head.now ++ lines_from c.args.n 0 c.args.rows) ≡ length c.args.head.now + length (lines_from c.args.n 0 c.args.rows)
-size c = length-append c.args.head.now (lines_from c.args.n 0 c.args.rows)
+size : (c : Start) → length (c.args.head.now ++ lines_from c.args.n 0 c.args.rows.now) ≡ length c.args.head.now + length (lines_from c.args.n 0 c.args.rows.now)
+size c = length-append c.args.head.now (lines_from c.args.n 0 c.args.rows.now)
 
 pub returns-then-buf-head : goal.returns-then-buf-head
 returns-then-buf-head c = let size = size (goal.at.returns-then-buf-head c).Start in no_room _ _ (omega arith)
@@ -20,4 +21,4 @@ returns-then-buf-head c = let size = size (goal.at.returns-then-buf-head c).Star
 pub returns : goal.returns
 returns c =
     let size = size (goal.at.returns c).Start in
-    taken _ _ _ _ (omega arith) (wrote_then c.put_text-at.ensures c.put_lines.ensures)
+    taken _ _ _ _ (omega arith) (wrote_then c.put_head-at.ensures c.put_lines.ensures)

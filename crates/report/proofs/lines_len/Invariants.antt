@@ -6,7 +6,4 @@ use Rattle.report.specs.Lines.{lines_from}
 use Rattle.report.proofs.lines_len.Given as goal
 
 abbrev pub invariant-loop-i : goal.invariant-loop-i
-invariant-loop-i l = (l.i ≤ l.n) × (l.len ≤ 196 * l.i) × (l.len + length (lines_from (l.n - l.i) l.i l.rows) ≡ length (lines_from l.n 0 l.rows))
-
-abbrev pub decreases-loop-i : goal.decreases-loop-i
-decreases-loop-i l = l.n - l.i
+invariant-loop-i l = (l.len ≤ 196 * l.i) × (l.len + length (lines_from (l.n - l.i) l.i l.rows) ≡ length (lines_from l.n 0 l.rows))

@@ -1,8 +1,9 @@
 -- `report::report` meets its contract. Assumes nothing.
-use mathlib.Core.Path.{◌≡◌, sym, ◌∙◌}
+use mathlib.Core.Path.{◌≡◌, sym, ap, ◌∙◌}
 use mathlib.Core.Bool.{false}
 use Prim.Native.Nat.{◌≤◌}
 use native.Mathlib.Omega.{arith}
+use borrow.Author.Rules.{rules}
 use lib.ListN.{length}
 use Rattle.circuit.specs.State.{bad}
 use Rattle.circuit.proofs.StateLaws.{good}
@@ -31,9 +32,9 @@ returns-then-buf-lines_len c = good_work _ _ _ (state_good (goal.at.returns-then
 
 pub put_lines-len-requires : goal.put_lines-len-requires
 unfolding text
-put_lines-len-requires c = ((good _ (state_good (goal.at.put_lines-len-requires c).Else-is_bad)).most, room (goal.at.put_lines-len-requires c).Else-buf-lines_len)
+put_lines-len-requires c =
+    ((good _ (state_good (goal.at.put_lines-len-requires c).Else-is_bad)).most, room (goal.at.put_lines-len-requires c).Else-buf-lines_len)
 
 pub returns : goal.returns
 unfolding text
-returns c =
-    good_work _ _ _ (state_good (goal.at.returns c).Else-is_bad) (taken _ _ _ _ (room (goal.at.returns c).Else-buf-lines_len) c.put_lines-len.ensures)
+returns c = good_work _ _ _ (state_good (goal.at.returns c).Else-is_bad) (taken _ _ _ _ (room (goal.at.returns c).Else-buf-lines_len) c.put_lines-len.ensures)

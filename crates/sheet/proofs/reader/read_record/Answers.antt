@@ -1,77 +1,51 @@
 -- `sheet::read_record` meets its contract. Assumes nothing.
 use mathlib.Core.Path.{◌≡◌}
-use mathlib.Core.Bool.{Bool}
-use mathlib.Core.List.{List}
-use mathlib.Core.Option.{Option}
-use Prim.Native.Nat.{ℕ, ◌≤◌}
+use Prim.Native.Nat.{◌<◌}
+use Rattle.std.proofs.lemmas.Grind.{common_steps}
 use native.Mathlib.Omega.{arith}
-use lib.ListN.{length, get_or, drop}
-use Rattle.bitset.specs.Sets.{has}
-use Rattle.sheet.specs.declared.reader.Field.{Field}
-use Rattle.sheet.specs.Layout.{allows, fixes}
-use Rattle.sheet.specs.Open.{Got, read_set, read_fixed}
-use Rattle.sheet.specs.inner.Reader.{IsField}
-use Rattle.sheet.proofs.ReaderLaws.{field_told, record_cut, record_unknown, next_fault, prev_fault, fixed_fault, record_whole}
-use Rattle.sheet.proofs.reader.read_record.Goals.{After-read_fixed, After-read_set, After-read_set-2, Else-unknown}
+use lib.ListN.{length}
+use Rattle.std.proofs.lemmas.Result.{err_from_is_err_and}
+use Rattle.sheet.proofs.ReaderLaws.{record_cut, record_unknown, next_fault, prev_fault, fixed_fault, record_whole}
+use Rattle.sheet.proofs.reader.read_record.Goals.{Else-is_empty}
 use Rattle.sheet.proofs.reader.read_record.Goals as goal
 
-there : (c : Else-unknown) → 1 ≤ length c.args.part.now
-there c = c.if-part-lt1.false
+there : (c : Else-is_empty) → 0 < length c.args.part.now
+there c = grind (arith, common_steps, c.is_empty.ensures, c.if-is_empty.false)
 
--- what the rules read at a place of the part, by the test of a field's bit
-abbrev set_at : ℕ → List ℕ → ℕ → Bool → Got (Option ℕ)
-set_at n part at present = read_set n present (drop at part)
-
-abbrev fixed_at : ℕ → List ℕ → ℕ → Bool → Got (Option ℕ)
-fixed_at n part at present = read_fixed n present (drop at part)
-
--- ---- after the reader of each field
-
-next_told : {r : Field} (c : After-read_set) → c.read_set.result ≡ r
-    → IsField (set_at c.args.n c.args.part.now 1 (has (get_or c.args.part.now 0 0) 0)) allows c.args.part.now r
-next_told c q = field_told (set_at c.args.n c.args.part.now 1) allows c.args.part.now c.contains.ensures q c.read_set.ensures
-
-prev_told : {r : Field} (c : After-read_set-2) → c.read_set-2.result ≡ r
-    → IsField (set_at c.args.n c.args.part.now c.in-Allows.stations.end (has (get_or c.args.part.now 0 0) 1)) allows c.args.part.now r
-prev_told c q =
-    field_told (set_at c.args.n c.args.part.now c.in-Allows.stations.end) allows c.args.part.now c.contains-2.ensures q c.read_set-2.ensures
-
-fixed_told : {r : Field} (c : After-read_fixed) → c.read_fixed.result ≡ r
-    → IsField (fixed_at c.args.n c.args.part.now c.in-Allows-read_set.stations.end (has (get_or c.args.part.now 0 0) 2)) fixes c.args.part.now r
-fixed_told c q =
-    field_told (fixed_at c.args.n c.args.part.now c.in-Allows-read_set.stations.end) fixes c.args.part.now c.contains-3.ensures q c.read_fixed.ensures
-
--- ---- the answers
-
-pub returns-then-part-lt1 : goal.returns-then-part-lt1
-returns-then-part-lt1 c = let a = c.args in record_cut a.n a.part.now c.if-part-lt1.true
-
-pub overflow_cast-map : goal.overflow_cast-map
-overflow_cast-map c = omega (arith, c.shared_slice_known-2-1.given 0)
+pub returns-then-is_empty : goal.returns-then-is_empty
+returns-then-is_empty c = let e : 0 ≡ length c.args.part.now = grind (arith, common_steps, c.is_empty.ensures, c.if-is_empty.true) in record_cut c.args.n 0 c.args.part.now e
 
 pub returns-then-unknown : goal.returns-then-unknown
-returns-then-unknown c =
-    record_unknown c.args.n c.args.part.now c.if-part-lt1.false (omega (arith, c.if-unknown.true))
+returns-then-unknown c = let a = c.args in record_unknown a.n 0 a.part.now (there (goal.at.returns-then-unknown c).Else-is_empty) (omega (arith, c.if-unknown.true))
 
-pub returns-in-Fault : goal.returns-in-Fault
-returns-in-Fault c =
-    next_fault c.args.n c.args.part.now (there (goal.at.returns-in-Fault c).Else-unknown) c.if-unknown.false (next_told (goal.at.returns-in-Fault c).After-read_set c.in-Fault.is)
+pub returns-in_err-next : goal.returns-in_err-next
+returns-in_err-next c =
+    let a = c.args in
+    let p = err_from_is_err_and c.from_residual.result c.from_residual.ensures.1 in
+    let next = rw c.contains.ensures at c.in_err-next.ensures in
+    rw (p.1, p.2) (next_fault a.n 0 a.part.now (there (goal.at.returns-in_err-next c).Else-is_empty) c.if-unknown.false next)
 
-pub read_set-requires-2 : goal.read_set-requires-2
-read_set-requires-2 c = ((next_told (goal.at.read_set-requires-2 c).After-read_set c.in-Allows.is).0.within, c.requires)
+pub returns-in_err-prev : goal.returns-in_err-prev
+returns-in_err-prev c =
+    let a = c.args in
+    let p = err_from_is_err_and c.from_residual-in_err-prev.result c.from_residual-in_err-prev.ensures.1 in
+    let next = rw c.contains.ensures at c.in_ok-next.ensures in
+    let prev = rw c.contains-2.ensures at c.in_err-prev.ensures in
+    rw (p.1, p.2) (prev_fault a.n 0 a.part.now (there (goal.at.returns-in_err-prev c).Else-is_empty) c.if-unknown.false next.0 prev)
 
-pub returns-in-Fault-read_set : goal.returns-in-Fault-read_set
-returns-in-Fault-read_set c =
-    prev_fault c.args.n c.args.part.now (there (goal.at.returns-in-Fault-read_set c).Else-unknown) c.if-unknown.false (next_told (goal.at.returns-in-Fault-read_set c).After-read_set c.in-Allows.is).0 (prev_told (goal.at.returns-in-Fault-read_set c).After-read_set-2 c.in-Fault-read_set.is)
-
-pub read_fixed-requires : goal.read_fixed-requires
-read_fixed-requires c = ((prev_told (goal.at.read_fixed-requires c).After-read_set-2 c.in-Allows-read_set.is).0.within, c.requires)
-
-pub returns-in-Fault-read_fixed : goal.returns-in-Fault-read_fixed
-returns-in-Fault-read_fixed c =
-    fixed_fault c.args.n c.args.part.now (there (goal.at.returns-in-Fault-read_fixed c).Else-unknown) c.if-unknown.false (next_told (goal.at.returns-in-Fault-read_fixed c).After-read_set c.in-Allows.is).0 (prev_told (goal.at.returns-in-Fault-read_fixed c).After-read_set-2 c.in-Allows-read_set.is).0 (fixed_told (goal.at.returns-in-Fault-read_fixed c).After-read_fixed c.in-Fault-read_fixed.is)
+pub returns-in_err-fixed : goal.returns-in_err-fixed
+returns-in_err-fixed c =
+    let a = c.args in
+    let p = err_from_is_err_and c.from_residual-in_err-fixed.result c.from_residual-in_err-fixed.ensures.1 in
+    let next = rw c.contains.ensures at c.in_ok-next.ensures in
+    let prev = rw c.contains-2.ensures at c.in_ok-prev.ensures in
+    let fixed = rw c.contains-3.ensures at c.in_err-fixed.ensures in
+    rw (p.1, p.2) (fixed_fault a.n 0 a.part.now (there (goal.at.returns-in_err-fixed c).Else-is_empty) c.if-unknown.false next.0 prev.0 fixed)
 
 pub returns : goal.returns
 returns c =
-    let fixed = fixed_told (goal.at.returns c).After-read_fixed c.in-Allows-read_fixed.is in
-    record_whole c.args.n c.args.part.now (there (goal.at.returns c).Else-unknown) c.if-unknown.false c.in-Allows.stations c.in-Allows-read_set.stations c.in-Allows-read_fixed.stations (next_told (goal.at.returns c).After-read_set c.in-Allows.is) (prev_told (goal.at.returns c).After-read_set-2 c.in-Allows-read_set.is) fixed
+    let a = c.args in
+    let next = rw c.contains.ensures at c.in_ok-next.ensures in
+    let prev = rw c.contains-2.ensures at c.in_ok-prev.ensures in
+    let fixed = rw c.contains-3.ensures at c.in_ok-fixed.ensures in
+    record_whole a.n 0 a.part.now (there (goal.at.returns c).Else-is_empty) c.if-unknown.false c.in_ok-next.next c.in_ok-prev.prev c.in_ok-fixed.fixed next prev fixed
