@@ -3,14 +3,14 @@ use mathlib.Core.Path.{◌≡◌, refl, sym, ap, ap₂, ◌∙◌, subst}
 use mathlib.Core.Bool.{Bool, true, false}
 use mathlib.Core.List.{List, [], ◌∷◌, ◌++◌, append_assoc}
 use Prim.Native.Nat.{ℕ, zero, suc, ◌+◌, ◌≤◌, ◌<◌}
-use native.Mathlib.Nat.{zero-add}
-use native.Mathlib.Numerals.{add-one}
 use native.Mathlib.Omega.{arith}
 use borrow.Author.Tests.{ltb-false}
 use lib.Dec.{eqb, ltb}
-use lib.ListN.{get_or, length, take, drop, set, length-append, take-append-drop, get_or-append}
-use lib.Seq.{paste-suc, drop-cons, drop_at, take_at, drop-append-add, get_or-append-add, length-take-le, sets, sets-eq}
+use lib.ListN.{get_or, length, take, drop, length-append, take-append-drop, get_or-append}
+use lib.Seq.{get_or-take, take-take, drop-cons, drop_at, take_at, drop-append-add, get_or-append-add, length-take-le, sets, sets-eq}
 use mir.Val.{bool_byte}
+use Rattle.std.specs.Prelude.{cond}
+use Rattle.std.proofs.lemmas.List.{drop-take}
 use Rattle.bitset.specs.Sets.{digit}
 use Rattle.bitset.specs.Upto.{row}
 use Rattle.bitset.proofs.BoolLaws.{or_false_l, or_false_r, cond_elim, cond_false}
@@ -24,7 +24,8 @@ use Rattle.filter.specs.declared.cycle.Cursor.{Cursor}
 use Rattle.filter.specs.inner.Steps.{state_at}
 use Rattle.loungeegret.specs.Words.{state_words, out_of_range, loaded, fields, stored, stored_in}
 use Rattle.loungeegret.specs.Results.{refuses, words_after}
-use Rattle.loungeegret.specs.inner.Parts.{cursor_of, cursor_words, moved_in}
+use Rattle.loungeegret.specs.declared.words.Loaded.{Loaded}
+use Rattle.loungeegret.specs.inner.Parts.{Says, cursor_of, cursor_words, moved_in}
 
 -- ---- the mark and the end
 
@@ -145,15 +146,35 @@ pub out_of_range_bad : (s : List ℕ) → out_of_range s ≡ true → bad (loade
 unfolding loaded bad
 out_of_range_bad s h = rw h
 
+-- ---- the first of the lent words are the state
+
+pub loaded_front : (s : List ℕ) → loaded (take state_words s) ≡ loaded s
+unfolding loaded
+loaded_front s =
+    rw (
+      take-take 64 state_words s (omega arith),
+      get_or-take state_words s 64 0 (omega arith),
+      get_or-take state_words s 65 0 (omega arith),
+      get_or-take state_words s 66 0 (omega arith),
+      get_or-take state_words s 67 0 (omega arith),
+      get_or-take state_words s 68 0 (omega arith),
+    )
+
+-- what is stored in them is stored in all
+pub stored_front : (s : List ℕ) (w : Work) → stored_in (take state_words s) w ++ drop state_words s ≡ stored_in s w
+unfolding stored_in
+stored_front s w = ap (λ (x : List ℕ). (stored w ++ x) ++ drop state_words s) (drop-take state_words 0 s) ∙ append_assoc (stored w) [] (drop state_words s)
+
+both : (b : Bool) (x y x₁ y₁ rest : List ℕ) → x ++ rest ≡ x₁ → y ++ rest ≡ y₁ → cond b x y ++ rest ≡ cond b x₁ y₁
+both true x y x₁ y₁ rest l r = l
+both false x y x₁ y₁ rest l r = r
+
+pub words_front : (s : List ℕ) (a : Answer) (w : Work) → words_after (take state_words s) a w ++ drop state_words s ≡ words_after s a w
+unfolding words_after
+words_front s a w =
+    both (refuses a) (take state_words s) (stored_in (take state_words s) w) s (stored_in s w) (drop state_words s) (take-append-drop state_words s) (stored_front s w)
+
 -- ---- the stores
-
--- the first i words of s stand at the start of d
-abbrev pub copied : List ℕ → List ℕ → ℕ → List ℕ
-copied d s i = take i s ++ drop i d
-
--- a turn of a loop that copies
-pub copy_turn : (d s : List ℕ) (i : ℕ) → i < length d → i < length s → set (copied d s i) i (get_or s i 0) ≡ copied d s (i + 1)
-copy_turn d s i hd hs = simp (zero-add, ← add-one) at (paste-suc d 0 s i 0 (simp zero-add hd) hs)
 
 -- the five words are stored, and then the rows
 pub stores : (s : List ℕ) (w : Work) → state_words ≤ length s → rows_of w ++ drop 64 (sets s 64 (fields w)) ≡ stored_in s w
@@ -185,9 +206,9 @@ unfolding loaded
 loaded_parts s range = sym (cond_false blank (moved_in s (take 64 s) (cursor_of s)) range)
 
 -- so a call of the parts is one of the state
-pub parts_as : {A : Type 0} (call : Work → A) (back : ℕ → ℕ → A) (s : List ℕ) (n limit : ℕ) (rows : List ℕ) (at : Cursor) → out_of_range s ≡ false
-    → n ≡ get_or s 64 0 → limit ≡ get_or s 65 0 → rows ≡ take 64 s → at ≡ cursor_of s → back n limit ≡ call (state_at n rows limit at) → back (get_or s 64 0) (get_or s 65 0) ≡ call (loaded s)
-parts_as call back s n limit rows at range en el er ea e =
-    ap₂ back (sym en) (sym el) ∙ e
+pub parts_as : {A : Type 0} (call : Work → A) (back : ℕ → ℕ → A) (s : List ℕ) (parts : Loaded) → Says parts s
+    → back parts.n parts.limit ≡ call (state_at parts.n parts.rows parts.limit parts.at) → back (get_or s 64 0) (get_or s 65 0) ≡ call (loaded s)
+parts_as call back s parts says e =
+    ap₂ back (sym says.n) (sym says.limit) ∙ e
     ∙ ap call
-    (ap₂ (λ (x y : ℕ). state_at x rows y at) en el ∙ ap₂ (λ (x : List ℕ) (y : Cursor). state_at (get_or s 64 0) x (get_or s 65 0) y) er ea ∙ loaded_parts s range)
+    (ap₂ (λ (x y : ℕ). state_at x parts.rows y parts.at) says.n says.limit ∙ ap₂ (λ (x : List ℕ) (y : Cursor). state_at (get_or s 64 0) x (get_or s 65 0) y) says.rows says.at ∙ loaded_parts s says.range)

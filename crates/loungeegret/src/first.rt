@@ -3,7 +3,7 @@ ghost use Rattle.finder.specs.Call.{first_call, first_list};
 ghost use Rattle.loungeegret.specs.Words.{loaded};
 ghost use Rattle.loungeegret.specs.Results.{FirstResult};
 
-use crate::{NO_STATE, STATE_WORDS, load};
+use crate::words::{NO_STATE, STATE_WORDS, load};
 
 // The first round within a budget of nodes: where it is found its list goes to the lent bytes. The outcome's code and the number of nodes
 // entered are written through the pointers.
@@ -17,13 +17,11 @@ pub extern "C" fn loungeegret_first_round(
 ) -> u32
     ensures { FirstResult (first_call (loaded state.now) budget list.old) (first_list (loaded state.now) budget list.old) state.now list.old list.new outcome.old outcome.new nodes.old nodes.new result }
 {
-    if state.len() < STATE_WORDS {
+    let Some(state) = state.first_chunk::<STATE_WORDS>() else {
         return NO_STATE;
-    }
+    };
     let sought = finder::first_round(load(state), budget, list);
-    let out = sought.outcome;
-    *outcome = out.code();
+    *outcome = sought.outcome.code();
     *nodes = sought.nodes;
-    let answer = sought.answer;
-    answer.number()
+    sought.answer.number()
 }

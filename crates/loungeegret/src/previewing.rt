@@ -5,11 +5,12 @@ ghost use Rattle.preview.specs.Call.{preview_call, sweep_preview, chain_preview,
 ghost use Rattle.loungeegret.specs.Words.{loaded};
 ghost use Rattle.loungeegret.specs.Results.{refuses, PreviewResult};
 
-use crate::{END_NUMBER, NO_STATE, STATE_WORDS, load, store_rows};
-use circuit::{Answer, End, Table};
+use crate::words::{END_NUMBER, NO_STATE, STATE_WORDS, load};
+use circuit::{Answer, End};
 use filter::Rule;
 
 // The word of the end that would follow; of a refused preview that of the given end, which may be out of range.
+// By hand: the number is asked, as `refuses` of specs/Results asks it.
 fn end_word(answer: Answer, given: u64, end: End) -> u64
     ensures { result ≡ cond (refuses answer) given (end_code end) }
 {
@@ -24,20 +25,16 @@ fn end_word(answer: Answer, given: u64, end: End) -> u64
 fn preview(state: &[u64], rule: Rule, legs: &mut [u64], end: &mut u64) -> u32
     ensures { PreviewResult (preview_call (loaded state.now) rule) state.now legs.old legs.new end.old end.new result }
 {
-    if state.len() < STATE_WORDS {
+    let Some(state) = state.first_chunk::<STATE_WORDS>() else {
         return NO_STATE;
-    }
-    if legs.len() < Table::MAX {
+    };
+    let Some(legs) = legs.first_chunk_mut::<64>() else {
         return NO_STATE;
-    }
+    };
     let shown = preview::preview(load(state), rule);
-    let answer = shown.answer;
-    let after = shown.end;
-    let table = shown.legs;
-    let rows = table.rows;
-    store_rows(legs, &rows);
-    *end = end_word(answer, state[END_NUMBER], after);
-    answer.number()
+    legs.copy_from_slice(&shown.legs.rows);
+    *end = end_word(shown.answer, state[END_NUMBER], shown.end);
+    shown.answer.number()
 }
 
 #[unsafe(no_mangle)]

@@ -16,32 +16,9 @@ const SHEET: usize = 1154;
 // No text is longer (`program_most`).
 const TEXT: usize = 11835;
 
-// What one read brought: so many bytes; whether to read on.
-#[derive(Clone, Copy)]
-struct Got {
-    len: usize,
-    more: bool,
-}
-
-// One read. A call that was interrupted is tried again.
-fn read_some<R: Read>(input: &mut R, rest: &mut [u8]) -> io::Result<Got>
-    ensures within { IfOk result (λ got. got.len ≤ length rest.old) }
-    ensures bytes { IfOk result (λ got. Consumes (R.remaining input.old) (R.remaining input.new) (take got.len rest.new)) }
-{
-    match input.read(rest) {
-        Ok(len) => Ok(Got { len, more: 0 < len }),
-        Err(e) => {
-            if e.kind() == ErrorKind::Interrupted {
-                Ok(Got { len: 0, more: true })
-            } else {
-                Err(e)
-            }
-        }
-    }
-}
-
-// Reads until the input ends, the buffer is full or a read fails: what it read was the front of the input. A proved loop has to end,
-// and nothing says that the input does, so the turns are counted, up to a number that no run reaches.
+// Reads until the input ends, the buffer is full or a read fails: what it read was the front of the input. A read that was interrupted is
+// tried again. A proved loop has to end, and nothing says that the input does, so the turns are counted, up to a number that no run reaches.
+// By hand: the tail of the buffer lent and its length back are the interface of `Read`.
 fn read_sheet<R: Read>(input: &mut R, buf: &mut [u8]) -> io::Result<usize>
     ensures within { IfOk result (λ len. len ≤ length buf.new) }
     ensures bytes { IfOk result (λ len. Consumes (R.remaining input.old) (R.remaining input.new) (take len buf.new)) }
@@ -51,10 +28,11 @@ fn read_sheet<R: Read>(input: &mut R, buf: &mut [u8]) -> io::Result<usize>
         if buf.len() <= len {
             break;
         }
-        let got = read_some(input, &mut buf[len..])?;
-        len += got.len;
-        if !got.more {
-            break;
+        match input.read(&mut buf[len..]) {
+            Ok(0) => break,
+            Ok(more) => len += more,
+            Err(e) if e.kind() == ErrorKind::Interrupted => {}
+            Err(e) => return Err(e),
         }
     }
     Ok(len)

@@ -1,9 +1,10 @@
 -- What a read put after the front of the buffer is what it took from the input.
-use Rattle.std.proofs.Common.{◌≡◌, ℕ, ◌+◌, ◌≤◌, List, ◌++◌, rules, arith, length, take, drop, sym, ap, ◌∙◌, subst, drop_at, length-take-le}
+use Rattle.std.proofs.Common.{◌≡◌, ℕ, ◌+◌, ◌≤◌, List, ◌++◌, rules, length, take, drop, sym, ap, ◌∙◌, subst, drop_at, length-take-le}
 use Rattle.std.specs.Io.KnownBytes.{Consumes}
-use Rattle.std.proofs.KnownBytes.{Consumes-trans}
+use Rattle.std.proofs.KnownBytes.{Consumes-trans, Consumes-kept}
 use borrow.Rule.Slice.PartMut.{put_mid, post_of, take_put}
 use lib.Seq.{take-add, take-append-le}
+use Rattle.prune.proofs.read_sheet.Goals.{in-Ok, in-Err}
 use Rattle.prune.proofs.read_sheet.Goals as goal
 
 front : (a k n : ℕ) (xs ys : List ℕ) → a ≤ length xs → n ≤ length ys → take (a + n) (put_mid a k xs ys) ≡ take a xs ++ take n ys
@@ -14,10 +15,11 @@ front a k n xs ys within fits =
 
 pub loop-preserved : goal.loop-preserved
 loop-preserved g c =
-    let whole = front c.loop.len _ c.in_ok-got.got.len c.loop.buf c.read_some.new.rest c.loop.invariant.0 (omega (arith, c.in_ok-got.ensures.within)) in
-    (search rules, subst (Consumes _ _) (sym whole) (Consumes-trans _ _ _ _ _ c.loop.invariant.1 c.in_ok-got.ensures.bytes))
-
-pub returns-then-not-got-clause-bytes : goal.returns-then-not-got-clause-bytes
-returns-then-not-got-clause-bytes g c =
-    let whole = front c.loop.len _ c.in_ok-got.got.len c.loop.buf c.read_some.new.rest c.loop.invariant.0 (omega (arith, c.in_ok-got.ensures.within)) in
-    subst (Consumes _ _) (sym whole) (Consumes-trans _ _ _ _ _ c.loop.invariant.1 c.in_ok-got.ensures.bytes)
+    let inv = c.loop.invariant in
+    elim c.match-read.branch [
+      | in-Ok w ↦
+          let got = w.in-Ok.ensures in
+          rw w.len-is (search rules, subst (Consumes _ _) (sym (front c.loop.len _ w.in-Ok.more c.loop.buf c.read.new.buf inv.0 got.bound.0)) (Consumes-trans _ _ _ _ _ inv.1 got.bytes.0))
+      | in-Err w ↦
+          rw w.len-is (search rules, subst (Consumes _ _) (sym (take_put c.loop.len _ c.loop.buf c.read.new.buf inv.0)) (Consumes-kept _ _ _ _ inv.1 w.in-Err.ensures.bytes))
+    ]

@@ -1,5 +1,0 @@
--- A number has fewer tens.
-use Rattle.cases.proofs.line.+put_decimal.Given as goal
-
-abbrev pub decreases-put_decimal : goal.decreases-put_decimal
-decreases-put_decimal l = l.x
