@@ -10,6 +10,36 @@ use Rattle.std.proofs.lemmas.List.{take-append-drop, drop-drop, length-take-le}
 use Rattle.writer.specs.declared.Writer.{Writer}
 use Rattle.writer.specs.inner.Writer.{Wrote, HasRoom, Appended, front, back}
 
+-- ---- lent what is left of a buffer
+
+-- the same text, put together in another way
+pub wrote_as : {t u d e : List ℕ} {r : ℕ} → t ≡ u → Wrote t d e r → Wrote u d e r
+wrote_as {t} {u} {d} {e} {r} q h = subst (λ (x : List ℕ). Wrote x d e r) q h
+
+-- the bytes that were filled are the text
+pub wrote_front : {t d e : List ℕ} {r : ℕ} → Wrote t d e r → take r e ≡ t
+wrote_front {t} {d} {e} {r} h = ap (take r) h.bytes ∙ take_at t (drop (length t) d) r (sym h.count)
+
+pub wrote_part : {t d e : List ℕ} {r : ℕ} → Wrote t d e r → r ≡ length (take r e)
+wrote_part h = h.count ∙ ap length (sym (wrote_front h))
+
+-- Lent `&mut buf[r..]`, whose bytes are `take (length e - r) (drop r e)`, the second writer leaves ys there; the buffer is then
+-- `take r e ++ (ys ++ drop (length e - r) (drop r e))`.
+pub wrote_then : {t u d e ys : List ℕ} {r s : ℕ} → Wrote t d e r → Wrote u (take (length e - r) (drop r e)) ys s
+    → Wrote (t ++ u) d (take r e ++ (ys ++ drop (length e - r) (drop r e))) (r + s)
+wrote_then {t} {u} {d} {e} {ys} {r} {s} a b =
+    let back : drop r e ≡ drop (length t) d = ap (drop r) a.bytes ∙ drop_at t (drop (length t) d) r (sym a.count) in
+    let none : drop (length e - r) (drop r e) ≡ [] = drop_of_length-le (drop r e) (le_of_eq (length-drop r e)) in
+    let part : take (length e - r) (drop r e) ≡ drop r e = take_all (length e - r) (drop r e) (le_of_eq (length-drop r e)) in
+    let was : ys ≡ u ++ drop (length u) (drop (length t) d) = b.bytes ∙ ap (λ (l : List ℕ). u ++ drop (length u) l) (part ∙ back) in
+    record {
+      count = omega (arith, a.count, b.count, length-append t u);
+      bytes =
+          rw (wrote_front a, none, append-nil ys, was, drop-drop (length u) (length t) d, length-append t u, append_assoc t u (drop (length t + length u) d));
+    }
+
+-- ---- a writer that goes on
+
 -- by the bytes that the buffer holds
 pub appended_by : {t : List ℕ} {v w : Writer} → HasRoom t v → w.buf.ghost_name ≡ v.buf.ghost_name → w.len ≡ v.len + length t
     → w.buf.now ≡ front v ++ (t ++ drop (v.len + length t) v.buf.now) → Appended t v w
@@ -24,6 +54,19 @@ appended_by {t} {v} {w} room same count bytes =
       front = ap (take w.len) whole ∙ take_at (front v ++ t) (drop (v.len + length t) v.buf.now) w.len grown;
       back = ap (drop w.len) whole ∙ drop_at (front v ++ t) (drop (v.len + length t) v.buf.now) w.len grown ∙ sym (drop-drop (length t) v.len v.buf.now);
     }
+
+-- by what was put into the rest, which is lent: ys is what stands there then
+pub appended_rest : {t ys : List ℕ} {v w : Writer} {r : ℕ} → HasRoom t v → w.buf.ghost_name ≡ v.buf.ghost_name
+    → Wrote t (take (length v.buf.now - v.len) (drop v.len v.buf.now)) ys r → w.len ≡ v.len + r
+    → w.buf.now ≡ take v.len v.buf.now ++ (ys ++ drop (length v.buf.now - v.len) (drop v.len v.buf.now)) → Appended t v w
+appended_rest {t} {ys} {v} {w} {r} room same put count bytes =
+    let before : length (front v) ≡ v.len = length-take-le v.len v.buf.now (omega arith) in
+    let stood : Wrote (front v) v.buf.now v.buf.now v.len =
+    record { count = sym before; bytes = sym (take-append-drop v.len v.buf.now) ∙ ap (λ (k : ℕ). front v ++ drop k v.buf.now) (sym before) } in
+    let both : length (front v ++ t) ≡ v.len + length t = omega (arith, before, length-append (front v) t) in
+    appended_by room same (omega (arith, count, put.count))
+    (bytes ∙ (wrote_then stood put).bytes ∙ ap (λ (k : ℕ). (front v ++ t) ++ drop k v.buf.now) both
+    ∙ append_assoc (front v) t (drop (v.len + length t) v.buf.now))
 
 -- the same text, put together in another way
 pub appended_as : {t u : List ℕ} {v w : Writer} → t ≡ u → Appended t v w → Appended u v w
@@ -69,27 +112,6 @@ appended_wrote {t} {d} {v} {w} q e h =
     record {
       count = omega (arith, h.count);
       bytes = sym (take-append-drop w.len w.buf.now) ∙ rw (f, b);
-    }
-
--- ---- lent what is left of a buffer
-
--- the bytes that were filled are the text
-wrote_front : {t d e : List ℕ} {r : ℕ} → Wrote t d e r → take r e ≡ t
-wrote_front {t} {d} {e} {r} h = ap (take r) h.bytes ∙ take_at t (drop (length t) d) r (sym h.count)
-
--- Lent `&mut buf[r..]`, whose bytes are `take (length e - r) (drop r e)`, the second writer leaves ys there; the buffer is then
--- `take r e ++ (ys ++ drop (length e - r) (drop r e))`.
-pub wrote_then : {t u d e ys : List ℕ} {r s : ℕ} → Wrote t d e r → Wrote u (take (length e - r) (drop r e)) ys s
-    → Wrote (t ++ u) d (take r e ++ (ys ++ drop (length e - r) (drop r e))) (r + s)
-wrote_then {t} {u} {d} {e} {ys} {r} {s} a b =
-    let back : drop r e ≡ drop (length t) d = ap (drop r) a.bytes ∙ drop_at t (drop (length t) d) r (sym a.count) in
-    let none : drop (length e - r) (drop r e) ≡ [] = drop_of_length-le (drop r e) (le_of_eq (length-drop r e)) in
-    let part : take (length e - r) (drop r e) ≡ drop r e = take_all (length e - r) (drop r e) (le_of_eq (length-drop r e)) in
-    let was : ys ≡ u ++ drop (length u) (drop (length t) d) = b.bytes ∙ ap (λ (l : List ℕ). u ++ drop (length u) l) (part ∙ back) in
-    record {
-      count = omega (arith, a.count, b.count, length-append t u);
-      bytes =
-          rw (wrote_front a, none, append-nil ys, was, drop-drop (length u) (length t) d, length-append t u, append_assoc t u (drop (length t + length u) d));
     }
 
 -- A loop that appends a text, from v on: `left` is still to be written.

@@ -1,9 +1,7 @@
--- `Writer::text` meets its contract. Assumes nothing.
+-- `Writer::text` meets its contract: the text is put into the rest. Assumes nothing.
 use mathlib.Core.Path.{refl}
-use native.Mathlib.Omega.{arith}
-use Rattle.std.proofs.lemmas.Grind.{common_steps}
-use Rattle.writer.proofs.WriterLaws.{appended_by}
+use Rattle.writer.proofs.WriterLaws.{appended_rest}
 use Rattle.writer.proofs.Writer.text.Goals as goal
 
 pub returns : goal.returns
-returns c = appended_by c.requires refl refl (grind (arith, common_steps))
+returns c = appended_rest c.requires refl c.put_text.ensures refl refl
