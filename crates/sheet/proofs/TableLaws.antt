@@ -18,8 +18,8 @@ use Rattle.bitset.proofs.QuantLaws.{below?}
 use Rattle.bitset.proofs.HasLaws.{has_and, has_not}
 use Rattle.bitset.proofs.SetLaws.{set_of_lt, has_set_of, eq_set_of}
 use Rattle.bitset.proofs.UptoLaws.{Changed, changed_end, get_d_upto, upto_cong}
-use Rattle.circuit.specs.Legs.{columns, leg, col, table_of}
-use Rattle.circuit.proofs.LegsLaws.{full_out, table_of_ext}
+use Rattle.circuit.specs.Legs.{columns, leg, col, table_of, full_table, capped}
+use Rattle.circuit.proofs.LegsLaws.{full_out, table_of_ext, capped_small, full_is}
 use Rattle.sheet.specs.Layout.{Entry, Page, free, allows, fixes, entry_at, given}
 use Rattle.circuit.specs.inner.Tables.{full_row}
 use Rattle.sheet.specs.inner.Reader.{next_of, prev_of, EmptyFrom, legal}
@@ -65,7 +65,12 @@ module _ (n i : ℕ) (next barred : List ℕ) (le : n ≤ 64) (h : i < 64) where
       ap (λ (w : ℕ). bit_and w allowed) (full_out n i g) ∙ and_zero_l allowed ∙ sym (cond_false (set_of n (legal next barred i)) 0 (le-ltb i n g)))
       (below? i n)
 
--- `full_row & (next[i] & !cols[i])`
+-- row i of the full table, as the code is handed it
+pub full_row_at : {rows : List ℕ} (n i : ℕ) → n ≤ 64 → i < 64 → rows ≡ full_table (capped n) → get_or rows i 0 ≡ full_row n i
+full_row_at n i le h e =
+    ap (λ (l : List ℕ). get_or l i 0) (e ∙ ap full_table (capped_small n le) ∙ sym (full_is n)) ∙ get_d_upto 64 (full_row n) 0 i h
+
+-- `full.rows[i] & (next[i] & !cols[i])`
 abbrev pub struck_row : ℕ → List ℕ → List ℕ → ℕ → ℕ
 struck_row n next cols i = bit_and (full_row n i) (bit_and (get_or next i 0) ((2 ^ 64 - 1) - get_or cols i 0))
 

@@ -1,12 +1,12 @@
 // The sheet of what is left, written into a lent buffer.
 ghost use Rattle.std.specs.Prelude.{◌≡◌, [], ◌≤◌, ◌<◌, ◌^◌, length};
-ghost use Rattle.writer.specs.inner.Writer.{HasRoom, Appended};
+ghost use Rattle.writer.specs.inner.Writer.{Wrote};
 ghost use Rattle.circuit.specs.inner.Tables.{Square};
 ghost use Rattle.sheet.specs.Layout.{entry_bytes, entries_bytes, bytes_of};
 ghost use Rattle.sheet.specs.Write.{entry_of, page_of};
 ghost use Rattle.sheet.specs.inner.Writing.{said};
 
-use writer::Writer;
+use writer::{put_byte, put_text};
 
 // The fields of a record that is written: none, the fixed next station alone, or the next set alone.
 #[derive(Clone, Copy)]
@@ -44,40 +44,42 @@ fn record_len(fields: Fields) -> usize
 }
 
 // The record: its map, and its field.
-fn put_record(out: &mut Writer, fields: Fields)
-    requires { HasRoom (entry_bytes (said fields) []) out.old }
-    ensures { Appended (entry_bytes (said fields) []) out.old out.new }
+fn put_record(buf: &mut [u8], fields: Fields) -> usize
+    requires { length (entry_bytes (said fields) []) ≤ length buf.old }
+    ensures { Wrote (entry_bytes (said fields) []) buf.old buf.new result }
 {
     match fields {
-        Fields::Free => out.byte(0),
+        Fields::Free => put_byte(buf, 0),
         Fields::Fixed(station) => {
-            out.byte(4);
-            out.byte(station);
+            let at = put_byte(buf, 4);
+            at + put_byte(&mut buf[at..], station)
         }
         Fields::Next(set) => {
-            out.byte(1);
-            out.text(&set.to_le_bytes());
+            let at = put_byte(buf, 1);
+            at + put_text(&mut buf[at..], &set.to_le_bytes())
         }
     }
 }
 
-// The records of n stations.
-fn put_records(out: &mut Writer, n: usize, rows: &[u64; 64])
-    requires { (n ≤ 64) × Square n rows.now × HasRoom (entries_bytes (page_of n rows.now).entries []) out.old }
-    ensures { Appended (entries_bytes (page_of n rows.now).entries []) out.old out.new }
+// The records of n stations, each into what is left of the buffer.
+fn put_records(buf: &mut [u8], n: usize, rows: &[u64; 64]) -> usize
+    requires { (n ≤ 64) × Square n rows.now × (length (entries_bytes (page_of n rows.now).entries []) ≤ length buf.old) }
+    ensures { Wrote (entries_bytes (page_of n rows.now).entries []) buf.old buf.new result }
 {
+    let mut at = 0usize;
     for row in &rows[..n] {
-        put_record(out, fields_of(n, *row));
+        at += put_record(&mut buf[at..], fields_of(n, *row));
     }
+    at
 }
 
 // The sheet: the number of stations, then the records.
-pub(crate) fn put_sheet(out: &mut Writer, n: usize, rows: &[u64; 64])
-    requires { (n ≤ 64) × Square n rows.now × HasRoom (bytes_of (page_of n rows.now)) out.old }
-    ensures { Appended (bytes_of (page_of n rows.now)) out.old out.new }
+pub(crate) fn put_sheet(buf: &mut [u8], n: usize, rows: &[u64; 64]) -> usize
+    requires { (n ≤ 64) × Square n rows.now × (length (bytes_of (page_of n rows.now)) ≤ length buf.old) }
+    ensures { Wrote (bytes_of (page_of n rows.now)) buf.old buf.new result }
 {
-    out.byte(n as u8);
-    put_records(out, n, rows);
+    let at = put_byte(buf, n as u8);
+    at + put_records(&mut buf[at..], n, rows)
 }
 
 // Its length, known before a byte is written.

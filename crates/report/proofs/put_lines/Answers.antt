@@ -6,7 +6,7 @@ use lib.ListN.{length, take, length-take}
 use Rattle.bitset.specs.Upto.{row}
 use Rattle.report.specs.Lines.{line_of, lines_from}
 use Rattle.report.proofs.LineLaws.{lines_more, lines_all}
-use Rattle.report.proofs.FillingLaws.{filling_none, filling_room, filling_more, filling_all}
+use Rattle.writer.proofs.FillingLaws.{filling_none, filling_room, filling_more, filling_all}
 use Rattle.report.proofs.put_lines.Goals.{In-loop-i}
 use Rattle.report.proofs.put_lines.Goals as goal
 

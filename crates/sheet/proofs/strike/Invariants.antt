@@ -1,9 +1,7 @@
 -- `sheet::strike` meets its contract: a loop that changes the rows in place. Assumes nothing.
-use mathlib.Core.Path.{◌≡◌}
-use Prim.Native.Nat.{◌^◌, ◌<◌}
 use Rattle.bitset.proofs.UptoLaws.{Changed}
 use Rattle.sheet.proofs.TableLaws.{struck_row}
 use Rattle.sheet.proofs.strike.Given as goal
 
 abbrev pub invariant-loop-i : goal.invariant-loop-i
-invariant-loop-i l = (l.i < 64 → l.own ≡ 2 ^ l.i) × Changed 64 (struck_row l.n l.initial.rows l.barred) l.initial.rows l.i l.rows
+invariant-loop-i l = Changed 64 (struck_row l.n l.initial.rows l.barred) l.initial.rows l.i l.rows

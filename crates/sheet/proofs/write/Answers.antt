@@ -1,11 +1,9 @@
 -- `sheet::write` meets its contract. Assumes nothing.
-use mathlib.Core.Path.{◌≡◌, sym, ap, ◌∙◌}
+use mathlib.Core.Path.{◌≡◌, sym, ◌∙◌}
 use mathlib.Core.Bool.{false}
 use Prim.Native.Nat.{◌≤◌}
 use native.Mathlib.Omega.{arith}
-use borrow.Author.Rules.{rules}
 use lib.ListN.{length}
-use Rattle.writer.proofs.WriterLaws.{appended_wrote}
 use Rattle.circuit.specs.declared.state.Work.{Work}
 use Rattle.circuit.specs.State.{rows_of, bad}
 use Rattle.circuit.specs.inner.Tables.{Square}
@@ -38,18 +36,12 @@ returns-then-short c =
     let w : Work = c.args.work in
     good_work w (sheet_of w) _ (state_good (goal.at.returns-then-short c).Else-is_bad) (no_room (sheet_of w) _ (omega (arith, c.sheet_len.ensures)))
 
-pub put_sheet-requires : goal.put_sheet-requires
+pub put_sheet-len-requires : goal.put_sheet-len-requires
 unfolding sheet_of
-put_sheet-requires c =
-    let e = state_good (goal.at.put_sheet-requires c).Else-is_bad in
-    let there = room (goal.at.put_sheet-requires c).Else-short in
-    ((good _ e).most, below _ e, omega (arith, c.new-out.ensures.len, ap length c.new-out.ensures.bytes))
+put_sheet-len-requires c = let e = state_good (goal.at.put_sheet-len-requires c).Else-is_bad in ((good _ e).most, below _ e, room (goal.at.put_sheet-len-requires c).Else-short)
 
 pub returns : goal.returns
 unfolding sheet_of
 returns c =
     let w : Work = c.args.work in
-    let e = c.new-out.ensures in
-    let wrote = appended_wrote e.bytes e.len c.put_sheet.ensures in
-    let p = good_work w (sheet_of w) _ (state_good (goal.at.returns c).Else-is_bad) (taken (sheet_of w) _ _ _ (room (goal.at.returns c).Else-short) wrote) in
-    (rw c.len.ensures p.0, (search rules) ∙ p.1)
+    good_work w (sheet_of w) _ (state_good (goal.at.returns c).Else-is_bad) (taken (sheet_of w) _ _ _ (room (goal.at.returns c).Else-short) c.put_sheet-len.ensures)

@@ -1,18 +1,16 @@
--- One line after another: each is lent what those before it left of the buffer. Assumes nothing.
-use mathlib.Core.Path.{◌≡◌, refl, sym, ap, ◌∙◌, subst}
+-- A loop of writers, each lent what those before it left of the buffer. Assumes nothing.
+use mathlib.Core.Path.{◌≡◌, refl, sym, ap, ◌∙◌}
 use mathlib.Core.List.{List, [], ◌++◌, append_assoc, append-nil}
 use Prim.Native.Nat.{ℕ, ◌+◌, ◌-◌, ◌≤◌}
-use native.Mathlib.Nat.{le_of_eq}
 use native.Mathlib.Omega.{arith}
-use lib.ListN.{length, take, drop, length-append, length-drop, drop_of_length-le}
-use lib.Seq.{take_all, drop-drop, take_at, drop_at}
+use lib.ListN.{length, take, drop, length-append, length-drop}
 use Rattle.writer.specs.inner.Writer.{Wrote}
-use Rattle.writer.proofs.WriterLaws.{wrote_then}
+use Rattle.writer.proofs.WriterLaws.{wrote_as, wrote_then}
 
 wrote_length : {t d e : List ℕ} {r : ℕ} → Wrote t d e r → length t ≤ length d → length e ≡ length d
 wrote_length {t} {d} {e} {r} h room = ap length h.bytes ∙ omega (arith, length-append t (drop (length t) d), length-drop (length t) d)
 
--- A loop of writers, r bytes into the text, with `left` still to be written; there is room for it.
+-- r bytes into the text, with `left` still to be written; there is room for it.
 pub record Filling (text left d e : List ℕ) (r : ℕ) : Type 0 where
   pub done : List ℕ
   pub whole : done ++ left ≡ text
@@ -43,4 +41,4 @@ filling_more {t} {l} {u} {v} {d} {e} {ys} {r} {s} q h b =
 
 pub filling_all : {t l d e : List ℕ} {r : ℕ} → l ≡ [] → Filling t l d e r → Wrote t d e r
 filling_all {t} {l} {d} {e} {r} q h =
-    subst (λ (x : List ℕ). Wrote x d e r) (sym (append-nil h.done) ∙ ap (λ (x : List ℕ). h.done ++ x) (sym q) ∙ h.whole) h.wrote
+    wrote_as (sym (append-nil h.done) ∙ ap (λ (x : List ℕ). h.done ++ x) (sym q) ∙ h.whole) h.wrote
