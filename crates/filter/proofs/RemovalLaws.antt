@@ -19,7 +19,7 @@ use Rattle.circuit.specs.declared.verdict.Verdict.{Verdict}
 use Rattle.circuit.specs.Legs.{leg, legs, Subtable}
 use Rattle.circuit.specs.State.{rows_of, stray, bad, Good}
 use Rattle.circuit.specs.Round.{All}
-use Rattle.circuit.proofs.StateLaws.{good, stray_row_lem, stray_beyond, stray_sub}
+use Rattle.circuit.proofs.StateLaws.{good, not_bad, stray_row_lem, stray_beyond, stray_sub}
 use Rattle.filter.specs.declared.rule.Rule.{Rule}
 use Rattle.filter.specs.declared.hand.Called.{Called}
 use Rattle.filter.specs.declared.cycle.Ran.{Ran}
@@ -30,7 +30,7 @@ use Rattle.filter.proofs.AfterLaws.{by_hand_cases, hand_call_cases, after_rows, 
 use Rattle.filter.proofs.CallLaws.{place_sound, step_leads, hand_call_leads, run_call_leads}
 use Rattle.filter.proofs.HandLaws.{call_bad}
 use Rattle.filter.proofs.RuleLaws.{says_sound}
-use Rattle.filter.proofs.RunLaws.{run_bad}
+use Rattle.filter.proofs.RunLaws.{run_bad, run_good}
 
 -- ---- a step, and what a run takes from there
 
@@ -117,3 +117,6 @@ module _ (w : Work) (long : length (rows_of w) ≡ 64) where
       ap (λ (r : Ran). rows_of r.work) is
       ∙ ⊎_elim (λ e. ap (λ (r : Ran). rows_of r.work) (run_bad w budget e))
       (λ e. kept (run_call w budget).work (run_call w budget).removed e (run_call_leads All w budget) (run_removed w budget) (sym (ap (λ (r : Ran). r.removed) is) ∙ none)) (cases (bad w))
+
+  pub run_from_kept : Good w → (budget : ℕ) (r : Ran) → r ≡ run_from budget w → r.removed ≡ 0 → rows_of r.work ≡ rows_of w
+  run_from_kept g budget r is = run_kept budget r (is ∙ sym (run_good w budget (not_bad w g)))

@@ -142,7 +142,7 @@ fn take_at(place: usize, idle: u64, net: &mut Network, limit: usize) -> Taken
     take_on(Rule::at_place(place), net, limit)
 }
 
-// While the end is open and fewer steps than the budget are taken, one step.
+// While the end is open and fewer steps than the budget are taken, one step. The rows are written only where a leg went.
 fn run_from(rows: &mut [u64; 64], n: usize, limit: usize, from: Cursor, budget: u32) -> RanIn
     requires { Good (state_at n rows.old limit from) }
     ensures { ran_as n limit rows.new result ≡ run_from budget (state_at n rows.old limit from) }
@@ -162,13 +162,16 @@ fn run_from(rows: &mut [u64; 64], n: usize, limit: usize, from: Cursor, budget: 
         standing = left;
         steps += 1;
     }
-    let left = net.rows;
-    *rows = left;
+    let removed = start - standing;
+    if removed != 0 {
+        let left = net.rows;
+        *rows = left;
+    }
     RanIn {
         answer: Answer::Taken,
         at,
         steps,
-        removed: start - standing,
+        removed,
     }
 }
 

@@ -1,8 +1,9 @@
 // A rule that strikes legs: a sweep, a chain step, or a pass with a seed. The seed is a station's number, from 1.
-ghost use Rattle.std.specs.Prelude.{false, ◌≡◌, ◌≤◌};
+ghost use Rattle.std.specs.Prelude.{false, ◌≡◌, ◌<◌, ◌≤◌};
 ghost use Rattle.circuit.specs.Legs.{columns};
 ghost use Rattle.circuit.specs.State.{stray};
 ghost use Rattle.circuit.specs.inner.Tables.{Square};
+ghost use Rattle.filter.specs.Pass.{pass};
 ghost use Rattle.filter.specs.Rule.{says, stray_seed, rule_at};
 ghost use Rattle.filter.specs.inner.Steps.{RowsLeft, TableLeft};
 
@@ -73,6 +74,20 @@ pub(crate) fn take_on(rule: Rule, net: &mut Network, limit: usize) -> Taken
     }
 }
 
+// The pass on the rows alone. They are written only where a leg went: most passes strike nothing.
+fn pass_rows(rows: &mut [u64; 64], n: usize, limit: usize, seed: usize) -> Taken
+    requires { (n ≤ 64) × (seed < n) × (stray n rows.old ≡ false) }
+    ensures { RowsLeft n (pass n rows.old limit seed) result rows.old rows.new }
+{
+    let mut net = Network::of(rows, n);
+    let taken = pass_on(&mut net, limit, seed);
+    if taken.struck {
+        let left = net.rows;
+        *rows = left;
+    }
+    taken
+}
+
 // The same on the rows alone: only a pass needs the columns.
 pub(crate) fn take(rule: Rule, rows: &mut [u64; 64], n: usize, limit: usize) -> Taken
     requires { (2 ≤ n) × (n ≤ 64) × (stray_seed n rule ≡ false) × (stray n rows.old ≡ false) }
@@ -81,12 +96,6 @@ pub(crate) fn take(rule: Rule, rows: &mut [u64; 64], n: usize, limit: usize) -> 
     match rule {
         Rule::Sweep => sweep_rows(rows, n),
         Rule::Chain => chain_rows(rows, n),
-        Rule::Pass(seed) => {
-            let mut net = Network::of(rows, n);
-            let taken = pass_on(&mut net, limit, seed - 1);
-            let left = net.rows;
-            *rows = left;
-            taken
-        }
+        Rule::Pass(seed) => pass_rows(rows, n, limit, seed - 1),
     }
 }

@@ -1,4 +1,5 @@
 use mathlib.Core.Path.{◌≡◌, refl, sym, ap, ap₂, ◌∙◌, subst}
+use mathlib.Core.List.{List}
 use Prim.Native.Nat.{ℕ, ◌-◌, ◌≤◌}
 use native.Mathlib.Omega.{arith}
 use Rattle.circuit.specs.declared.card.Answer.TheVariants.{Taken}
@@ -8,12 +9,13 @@ use Rattle.circuit.specs.State.{rows_of}
 use Rattle.circuit.proofs.LegsLaws.{legs_le}
 use Rattle.circuit.proofs.StateLaws.{stray_row_lem}
 use Rattle.filter.specs.Rule.{rule_at}
-use Rattle.filter.specs.Calls.{verdict, gone}
-use Rattle.filter.specs.inner.Steps.{state_at}
+use Rattle.filter.specs.Calls.{verdict, gone, run_from}
+use Rattle.filter.specs.inner.Steps.{state_at, ran_as}
 use Rattle.filter.proofs.CallLaws.{place_sound}
 use Rattle.filter.proofs.IdleLaws.{idle_none}
+use Rattle.filter.proofs.RemovalLaws.{run_from_kept}
 use Rattle.filter.proofs.StepLaws.{step_is, run_start, run_fewer, run_turn, run_spent, run_ended}
-use Rattle.filter.proofs.cycle.run_from.Goals.{After-take_at-taken, else-loop-steps-test, then-loop-steps-test+else-is_open}
+use Rattle.filter.proofs.cycle.run_from.Goals.{After-take_at-taken, Left-loop-steps, else-loop-steps-test, then-loop-steps-test+else-is_open}
 use Rattle.filter.proofs.cycle.run_from.Goals as goal
 
 pub of-net-requires : goal.of-net-requires
@@ -92,11 +94,14 @@ loop-steps-preserved c =
       },
     )
 
-pub overflow_sub-result : goal.overflow_sub-result
-overflow_sub-result c = let i = c.loop-steps.invariant.1 in omega (arith, i.all, i.left, run_fewer i.run i.good)
+pub overflow_sub-removed : goal.overflow_sub-removed
+overflow_sub-removed c = let i = c.loop-steps.invariant.1 in omega (arith, i.all, i.left, run_fewer i.run i.good)
 
-pub returns : goal.returns
-returns c =
+-- what the run has come to
+ran : (c : Left-loop-steps) → let a = c.args in
+    ran_as a.n a.limit c.loop-steps.net.rows (record { answer = Taken; at = c.loop-steps.at; steps = c.loop-steps.steps; removed = c.legs_of-start.result - c.loop-steps.standing })
+    ≡ run_from a.budget (state_at a.n a.rows.now a.limit a.from)
+ran c =
     let a = c.args in
     let i = c.loop-steps.invariant.1 in
     let budget = c.args.budget in
@@ -106,3 +111,15 @@ returns c =
       | else-loop-steps-test w ↦ run_spent i.run i.good budget (omega (arith, w.loop-steps-test.false, k))
       | then-loop-steps-test+else-is_open w ↦ run_ended i.run i.good budget k (sym w.is_open.ensures ∙ w.if-is_open.false)
     ]
+
+pub returns-then-removed-ne0 : goal.returns-then-removed-ne0
+returns-then-removed-ne0 c = ran (goal.at.returns-then-removed-ne0 c).Left-loop-steps
+
+-- no leg went, so the rows that were lent are those of the network
+pub returns-else-removed-ne0 : goal.returns-else-removed-ne0
+returns-else-removed-ne0 c =
+    let a = c.args in
+    let L = ran (goal.at.returns-else-removed-ne0 c).Left-loop-steps in
+    ap (λ (t : List ℕ). ran_as a.n a.limit t (record { answer = Taken; at = c.loop-steps.at; steps = c.loop-steps.steps; removed = c.legs_of-start.result - c.loop-steps.standing }))
+    (sym (run_from_kept (state_at a.n a.rows.now a.limit a.from) c.told-rows c.requires a.budget _ L c.if-removed-ne0.false))
+    ∙ L

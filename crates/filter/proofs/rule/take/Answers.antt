@@ -1,16 +1,16 @@
 -- `filter::take` meets its contract.
-use mathlib.Core.Path.{sym, ap, ◌∙◌}
+use mathlib.Core.Path.{sym, ap}
 use Rattle.filter.specs.declared.rule.Rule.{Rule}
 use Rattle.filter.specs.Rule.{says}
 use Rattle.filter.proofs.RuleLaws.{seed_least, seed_index, pass_says}
-use Rattle.filter.proofs.TakeLaws.{rows_as, table_as}
+use Rattle.filter.proofs.TakeLaws.{rows_as}
 use Rattle.filter.proofs.rule.take.Goals as goal
 
 pub overflow_sub-seed : goal.overflow_sub-seed
 overflow_sub-seed c = seed_least c.args.rule _ c.in-Pass.is c.args.n c.requires.2
 
-pub pass_on-taken-requires : goal.pass_on-taken-requires
-pass_on-taken-requires c = rw c.of-net.ensures.0 (seed_index c.args.rule _ c.in-Pass.is c.args.n c.requires.2)
+pub pass_rows-requires : goal.pass_rows-requires
+pass_rows-requires c = (c.requires.1, seed_index c.args.rule _ c.in-Pass.is c.args.n c.requires.2, c.requires.3)
 
 pub returns-in-Sweep : goal.returns-in-Sweep
 unfolding says
@@ -25,11 +25,4 @@ returns-in-Chain c =
     rows_as (ap (λ (r : Rule). says r a.n a.rows.now a.limit) (sym c.in-Chain.is)) c.chain_rows.ensures
 
 pub returns-in-Pass : goal.returns-in-Pass
-returns-in-Pass c =
-    let e = c.of-net.ensures in
-    let L = c.pass_on-taken.ensures in
-    record {
-      table = table_as (pass_says c.args.rule _ c.in-Pass.is c.args.n c.requires.2 c.args.rows.now c.args.limit) (rw (e.0, e.1) at L.1);
-      clean = rw (L.0 ∙ e.0) at c.pass_on-taken.new.net.columned.clean;
-      len = c.pass_on-taken.new.net.columned.len;
-    }
+returns-in-Pass c = rows_as (pass_says c.args.rule _ c.in-Pass.is c.args.n c.requires.2 c.args.rows.now c.args.limit) c.pass_rows.ensures
