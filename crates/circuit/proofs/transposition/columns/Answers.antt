@@ -1,44 +1,22 @@
 -- `circuit::columns` meets its contract: the first n words are copied, the others empty.
-use Rattle.std.proofs.Common.{◌≡◌, ℕ, ◌+◌, ◌-◌, ◌≤◌, ◌<◌, List, ◌++◌, length, take, drop, sym, ap, ◌∙◌, ⊎_elim, subst, arith, length-append, length-drop}
-use Rattle.std.proofs.Math.ListN.{get_or, replicate, get_or-append, get_or-replicate, length-replicate}
-use Rattle.std.proofs.lemmas.List.{length-take, get_or-take, get_or-drop, get_or-append_right}
-use Rattle.bitset.proofs.QuantLaws.{below?}
-use Rattle.bitset.specs.Upto.{upto}
-use Rattle.bitset.proofs.UptoLaws.{upto_of}
+use Rattle.std.proofs.Common.{ℕ, List, ◌++◌, drop, sym, ap, ◌∙◌, subst}
+use Rattle.std.proofs.Math.ListN.{replicate}
 use Rattle.circuit.specs.Legs.{columns}
-use Rattle.circuit.specs.inner.Columns.{Corner, first_word}
-use Rattle.circuit.proofs.ColumnLaws.{first_in, first_out, first_corner, first_columns}
+use Rattle.circuit.specs.inner.Columns.{Corner}
+use Rattle.circuit.proofs.ColumnLaws.{first_corner, first_columns}
+use Rattle.circuit.proofs.CopyLaws.{first_copied}
 use Rattle.circuit.proofs.transposition.columns.Goals as goal
-
--- n words of the table, and empty words beyond
-copied : (n : ℕ) (t : List ℕ) → n ≤ 64 → length t ≡ 64 → take n t ++ drop n (replicate 64 0) ≡ upto 64 (first_word n t)
-copied n t le e =
-    upto_of 64 (first_word n t) 0 (take n t ++ drop n (replicate 64 0)) (simp (length-append, length-take, length-drop) (omega (arith, length-replicate {A = ℕ} 64 0)))
-    (λ k l. ⊎_elim (front k) (rest k l) (below? k n))
-  where
-    len : length (take n t) ≡ n
-    len = omega (arith, length-take n t)
-
-    front : (k : ℕ) → k < n → get_or (take n t ++ drop n (replicate 64 0)) k 0 ≡ first_word n t k
-    front k h = get_or-append (take n t) (drop n (replicate 64 0)) 0 k (omega (arith, len)) ∙ get_or-take n t k 0 h ∙ sym (first_in n t k h)
-
-    rest : (k : ℕ) → k < 64 → n ≤ k → get_or (take n t ++ drop n (replicate 64 0)) k 0 ≡ first_word n t k
-    rest k l g =
-        get_or-append_right (take n t) (drop n (replicate 64 0)) n k 0 len g
-        ∙ get_or-drop n (replicate 64 0) (k - n) 0
-        ∙ get_or-replicate 64 (n + (k - n)) 0 0 (omega arith)
-        ∙ sym (first_out n t k g)
 
 pub transpose-requires : goal.transpose-requires
 transpose-requires c =
     let a = c.args in
     let n = a.n in
-    let e = ap (λ (t : List ℕ). t ++ drop n (replicate 64 0)) c.copy_from_slice.ensures.after ∙ copied n a.rows.now c.requires.0 c.told-rows in
+    let e = ap (λ (t : List ℕ). t ++ drop n (replicate 64 0)) c.copy_from_slice.ensures.after ∙ first_copied n a.rows.now c.requires.0 c.told-rows in
     (c.requires.0, subst (Corner n) (sym e) (first_corner n a.rows.now c.requires.0 c.requires.1))
 
 pub returns : goal.returns
 returns c =
     let a = c.args in
     let n = a.n in
-    let e = ap (λ (t : List ℕ). t ++ drop n (replicate 64 0)) c.copy_from_slice.ensures.after ∙ copied n a.rows.now c.requires.0 c.told-rows in
+    let e = ap (λ (t : List ℕ). t ++ drop n (replicate 64 0)) c.copy_from_slice.ensures.after ∙ first_copied n a.rows.now c.requires.0 c.told-rows in
     c.transpose.ensures ∙ ap (columns n) e ∙ first_columns n a.rows.now c.requires.0
