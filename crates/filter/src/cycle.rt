@@ -175,13 +175,16 @@ fn run_from(rows: &mut [u64; 64], n: usize, limit: usize, from: Cursor, budget: 
     }
 }
 
-// The run with a budget, on lent rows. Where the end is not open nothing is gathered.
+// The run with a budget, on lent rows. Where no step is due, since the budget is 0 or the end is not open, nothing is gathered.
 pub fn run_in(rows: &mut [u64; 64], n: usize, limit: usize, from: Cursor, budget: u32) -> RanIn
     ensures { (ran_as n limit rows.new result ≡ run_call (state_at n rows.old limit from) budget)
         × (result.removed ≡ 0 → rows.new ≡ rows.old) }
 {
     if circuit::is_bad_state(rows, n, limit, from.place) {
         return RanIn::unmoved(Answer::BadWork, from);
+    }
+    if budget == 0 {
+        return RanIn::unmoved(Answer::Taken, from);
     }
     if from.end.is_open() {
         return run_from(rows, n, limit, from, budget);

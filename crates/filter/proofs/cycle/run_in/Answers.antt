@@ -1,8 +1,10 @@
 -- `filter::run_in` meets its contract.
 use mathlib.Core.Path.{◌≡◌, refl, sym, ap, ◌∙◌}
 use mathlib.Core.Bool.{false}
+use Prim.Native.Nat.{ℕ}
 use Rattle.circuit.specs.State.{bad}
 use Rattle.circuit.proofs.StateLaws.{good}
+use Rattle.filter.specs.Calls.{run_from}
 use Rattle.filter.specs.inner.Steps.{state_at, ran_as}
 use Rattle.filter.proofs.RemovalLaws.{run_kept}
 use Rattle.filter.proofs.RunLaws.{run_bad, run_good, run_shut}
@@ -17,6 +19,17 @@ returns-then-is_bad_state c =
     let a = c.args in
     let told = c.is_bad_state.ensures a.from.mark a.from.end in (
       ap (ran_as a.n a.limit a.rows.now) c.unmoved.ensures ∙ sym (run_bad (state_at a.n a.rows.now a.limit a.from) a.budget (sym told ∙ c.if-is_bad_state.true)),
+      λ _. refl,
+    )
+
+-- no step is due
+pub returns-then-budget-eq0 : goal.returns-then-budget-eq0
+unfolding run_from
+returns-then-budget-eq0 c =
+    let a = c.args in
+    let w = state_at a.n a.rows.now a.limit a.from in (
+      ap (ran_as a.n a.limit a.rows.now) c.unmoved-then-budget-eq0.ensures
+          ∙ sym (run_good w a.budget (not_bad (goal.at.returns-then-budget-eq0 c).Else-is_bad_state) ∙ ap (λ (b : ℕ). run_from b w) c.if-budget-eq0.true),
       λ _. refl,
     )
 
