@@ -20,6 +20,7 @@
 
 mod answer;
 mod command;
+mod line;
 mod play;
 mod room;
 mod script;

@@ -4,6 +4,7 @@ use crate::answer::{
     print_previewed, print_ran, print_work,
 };
 use crate::command::{Command, REPORT, SHEET};
+use crate::line::print_line;
 use crate::room::Room;
 use crate::shown::Hex;
 use circuit::Work;
@@ -20,7 +21,7 @@ fn play_report(rt: &impl Print, work: Work, room: Room<REPORT>) -> io::Result<()
     let buf = &mut buf[..room.len];
     print_filled(rt, "report", report::report(work, buf))?;
     rt.write_all(buf)?;
-    println!(rt)
+    rt.write_all(b"\n")
 }
 
 // The whole buffer again.
@@ -28,7 +29,7 @@ fn play_write(rt: &impl Print, work: Work, room: Room<SHEET>) -> io::Result<()> 
     let mut buf = [b'.'; SHEET];
     let buf = &mut buf[..room.len];
     print_filled(rt, "write", sheet::write(work, buf))?;
-    println!(rt; "{}", Hex(buf))
+    print_line(rt, Hex(buf))
 }
 
 // The whole list is printed, so that a byte that has changed where none is found is seen.
@@ -36,7 +37,7 @@ fn play_first(rt: &impl Print, work: Work, budget: u32, len: u8) -> io::Result<(
     let mut list = [b'.'; LIST];
     let list = &mut list[..usize::from(len)];
     print_first(rt, finder::first_round(work, budget, list))?;
-    println!(rt; "{}", Hex(list))
+    print_line(rt, Hex(list))
 }
 
 // Each rule and each preview by its own function, so that scripts reach these too.

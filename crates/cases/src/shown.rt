@@ -1,4 +1,7 @@
 // What stands in the answers' lines.
+ghost use Rattle.std.specs.Prelude.{◌≤◌, ◌<◌, length};
+ghost use Rattle.std.specs.Str.{IsAscii};
+
 use circuit::Table;
 use std::fmt;
 
@@ -10,7 +13,7 @@ impl fmt::Display for Rows<'_> {
     fn fmt<W: fmt::Write>(&self, f: &mut fmt::Formatter<W>) -> fmt::Result {
         for (i, row) in self.0.iter().enumerate() {
             if *row != 0 {
-                write!(f, " {}={:016x}", i + 1, *row)?;
+                write!(f, " {}={}", i + 1, Hex(&row.to_be_bytes()))?;
             }
         }
         Ok(())
@@ -38,9 +41,41 @@ pub struct Hex<'a>(pub &'a [u8]);
 
 impl fmt::Display for Hex<'_> {
     fn fmt<W: fmt::Write>(&self, f: &mut fmt::Formatter<W>) -> fmt::Result {
-        for byte in self.0 {
-            write!(f, "{:02x}", *byte)?;
+        let mut rest = self.0;
+        while let Some((front, after)) = rest.split_first_chunk::<GROUP>() {
+            write_digits(f, front)?;
+            rest = after;
         }
-        Ok(())
+        write_digits(f, rest)
     }
+}
+
+// So many bytes get their digits at once.
+const GROUP: usize = 16;
+
+fn digit(x: u8) -> u8
+    requires { x < 16 }
+    ensures { result < 128 }
+{
+    if x < 10 { b'0' + x } else { b'a' - 10 + x }
+}
+
+// The digits of a group of bytes, or of fewer.
+fn digits(bytes: &[u8]) -> [u8; 2 * GROUP]
+    requires { length bytes.now ≤ 16 }
+    ensures { IsAscii result }
+{
+    let mut digits = [0u8; 2 * GROUP];
+    for (i, byte) in bytes.iter().enumerate() {
+        digits[2 * i] = digit(byte >> 4);
+        digits[2 * i + 1] = digit(byte & 15);
+    }
+    digits
+}
+
+fn write_digits<W: fmt::Write>(f: &mut fmt::Formatter<W>, bytes: &[u8]) -> fmt::Result
+    requires { length bytes.now ≤ 16 }
+{
+    let digits = digits(bytes);
+    f.write_str(str::from_utf8(&digits[..2 * bytes.len()]).unwrap())
 }

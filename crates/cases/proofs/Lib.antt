@@ -1,0 +1,2 @@
+-- The laws of what stands in the answers' lines.
+mod DigitLaws
