@@ -1,5 +1,5 @@
 -- Digits are ASCII, so they are text.
-use Rattle.std.specs.Prelude.{◌≡◌, ℕ, zero, suc, ◌<◌, replicate, refl, Result, Ok, Err, IsOk, MatchResult}
+use Rattle.std.specs.Prelude.{ℕ, zero, suc, ◌<◌, replicate, refl, Result, Ok, Err, IsOk, MatchResult}
 use Rattle.std.specs.List.{slice_index}
 use Rattle.std.proofs.Common.{lit<}
 

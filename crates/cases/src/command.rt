@@ -1,5 +1,6 @@
 // The commands of a script.
-ghost use Rattle.std.specs.Prelude.{◌≤◌, length};
+ghost use Rattle.std.specs.Prelude.{◌≡◌, ◌+◌, ◌≤◌, length, IfSome};
+ghost use Rattle.cases.specs.Taken.{rule_size, Takes};
 
 use crate::room::Room;
 use crate::script::Script;
@@ -29,7 +30,8 @@ pub enum Command<'a> {
 impl<'a> Command<'a> {
     // The command with this opcode, whose arguments follow in the script.
     pub fn read(opcode: u8, script: &mut Script<'a>) -> Option<Command<'a>>
-        ensures { length script.new.rest.now ≤ length script.old.rest.now }
+        ensures falls { length script.new.rest.now ≤ length script.old.rest.now }
+        ensures taken { IfSome result (λ command. Takes command (length script.old.rest.now) (length script.new.rest.now)) }
     {
         Some(match opcode {
             b'O' => Command::Open {
@@ -61,7 +63,8 @@ impl<'a> Command<'a> {
 }
 
 fn read_rule(opcode: u8, script: &mut Script) -> Option<Rule>
-    ensures { length script.new.rest.now ≤ length script.old.rest.now }
+    ensures falls { length script.new.rest.now ≤ length script.old.rest.now }
+    ensures taken { IfSome result (λ rule. length script.new.rest.now + rule_size rule ≡ length script.old.rest.now) }
 {
     match opcode {
         b'S' => Some(Rule::Sweep),

@@ -26,6 +26,9 @@ mod room;
 mod script;
 mod shown;
 
+ghost use Rattle.std.specs.Prelude.{◌≡◌, ◌≢◌, ◌≤◌, length, IfSome};
+ghost use Rattle.cases.specs.Taken.{Takes};
+
 use circuit::Work;
 use command::Command;
 use play::play;
@@ -36,16 +39,28 @@ use std::io::Read;
 // The longest script; what is past it is not read.
 const SCRIPT: usize = 524288;
 
+// The command of an opcode: the last one that made a state once more, or one whose arguments follow in the script.
+fn next_command<'a>(
+    opcode: u8,
+    script: &mut Script<'a>,
+    maker: Option<Command<'a>>,
+) -> Option<Command<'a>>
+    ensures falls { length script.new.rest.now ≤ length script.old.rest.now }
+    ensures again { opcode ≡ 65 → (result ≡ maker.entry) × (script.new.rest.now ≡ script.old.rest.now) }
+    ensures taken { opcode ≢ 65 → IfSome result (λ command. Takes command (length script.old.rest.now) (length script.new.rest.now)) }
+{
+    match opcode {
+        b'A' => maker,
+        _ => Command::read(opcode, script),
+    }
+}
+
 fn answer_script(rt: &impl Print, mut script: Script) -> io::Result<()> {
     let mut work = Work::blank();
     // The last command that made a state.
     let mut maker = None;
     while let Some(opcode) = script.byte() {
-        let read = match opcode {
-            b'A' => maker,
-            _ => Command::read(opcode, &mut script),
-        };
-        let Some(command) = read else {
+        let Some(command) = next_command(opcode, &mut script, maker) else {
             return println!(rt; "stop");
         };
         if command.makes_state() {

@@ -1,4 +1,8 @@
 // A command played: its call is made, its answer printed, and the state after it handed back.
+ghost use Rattle.std.specs.Prelude.{◌≡◌};
+ghost use Rattle.filter.specs.Calls.{hand_call};
+ghost use Rattle.preview.specs.Call.{preview_call};
+
 use crate::answer::{
     print_called, print_checked, print_cut, print_filled, print_first, print_opened,
     print_previewed, print_ran, print_work,
@@ -41,7 +45,9 @@ fn play_first(rt: &impl Print, work: Work, budget: u32, len: u8) -> io::Result<(
 }
 
 // Each rule and each preview by its own function, so that scripts reach these too.
-fn by_hand(work: Work, rule: Rule) -> Called {
+fn by_hand(work: Work, rule: Rule) -> Called
+    ensures { result ≡ hand_call work rule }
+{
     match rule {
         Rule::Sweep => filter::sweep(work),
         Rule::Chain => filter::chain(work),
@@ -49,7 +55,9 @@ fn by_hand(work: Work, rule: Rule) -> Called {
     }
 }
 
-fn previewed(work: Work, rule: Rule) -> Previewed {
+fn previewed(work: Work, rule: Rule) -> Previewed
+    ensures { result ≡ preview_call work rule }
+{
     match rule {
         Rule::Sweep => preview::preview_sweep(work),
         Rule::Chain => preview::preview_chain(work),

@@ -1,5 +1,5 @@
 // The length of a buffer that is to be filled.
-ghost use Rattle.std.specs.Prelude.{◌≤◌, length};
+ghost use Rattle.std.specs.Prelude.{◌≡◌, ◌+◌, ◌≤◌, length, OnSome};
 
 use crate::script::Script;
 
@@ -12,7 +12,8 @@ pub struct Room<const MOST: usize> {
 
 impl<const MOST: usize> Room<MOST> {
     pub fn read(script: &mut Script) -> Option<Room<MOST>>
-        ensures { length script.new.rest.now ≤ length script.old.rest.now }
+        ensures falls { length script.new.rest.now ≤ length script.old.rest.now }
+        ensures taken { OnSome result (length script.new.rest.now + 2 ≡ length script.old.rest.now) }
     {
         let len = usize::from(script.u16()?);
         if len <= MOST {
