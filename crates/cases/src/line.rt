@@ -1,5 +1,6 @@
 // A line of the output: put together in an array, so that it is written at once.
 ghost use Rattle.std.specs.Prelude.{◌≤◌};
+ghost use Rattle.cases.specs.declared.line.TheConstants.{LINE};
 
 use std::fmt::Write;
 use std::{fmt, io};
@@ -11,7 +12,7 @@ const LINE: usize = 1536;
 struct Line {
     bytes: [u8; LINE],
     len: usize,
-    ghost bounded: { len ≤ 1536 },
+    ghost bounded: { len ≤ LINE },
 }
 
 impl Line {

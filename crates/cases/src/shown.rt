@@ -62,20 +62,20 @@ fn digit(x: u8) -> u8
 
 // The digits of a group of bytes, or of fewer.
 fn digits(bytes: &[u8]) -> [u8; 2 * GROUP]
-    requires { length bytes.now ≤ 16 }
+    requires { length bytes.now ≤ GROUP }
     ensures { IsAscii result }
 {
-    let mut digits = [0u8; 2 * GROUP];
+    let mut text = [0u8; 2 * GROUP];
     for (i, byte) in bytes.iter().enumerate() {
-        digits[2 * i] = digit(byte >> 4);
-        digits[2 * i + 1] = digit(byte & 15);
+        text[2 * i] = digit(byte >> 4);
+        text[2 * i + 1] = digit(byte & 15);
     }
-    digits
+    text
 }
 
 fn write_digits<W: fmt::Write>(f: &mut fmt::Formatter<W>, bytes: &[u8]) -> fmt::Result
-    requires { length bytes.now ≤ 16 }
+    requires { length bytes.now ≤ GROUP }
 {
-    let digits = digits(bytes);
-    f.write_str(str::from_utf8(&digits[..2 * bytes.len()]).unwrap())
+    let text = digits(bytes);
+    f.write_str(str::from_utf8(&text[..2 * bytes.len()]).unwrap())
 }

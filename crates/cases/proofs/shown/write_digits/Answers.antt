@@ -6,4 +6,4 @@ use Rattle.cases.proofs.shown.write_digits.Goals as goal
 pub unwrap-requires : goal.unwrap-requires
 unwrap-requires g c =
     taken_whole c.from_utf8.result _ _ c.from_utf8.ensures.cases
-    (λ _ no. no.0 (IsUtf8-from_ascii _ (IsAscii-take _ _ c.digits-digits.ensures)))
+    (λ _ no. no.0 (IsUtf8-from_ascii _ (IsAscii-take _ _ c.digits-text.ensures)))
