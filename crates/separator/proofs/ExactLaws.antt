@@ -1,4 +1,4 @@
--- The code of one level is the rule: from what `spare_stations` says and the cut rows to `level`. Assumes nothing.
+-- The code of one level is the rule: from what `Level::spares` says and the cut rows to `level`. Assumes nothing.
 use mathlib.Core.Path.{◌≡◌, sym, ap, subst, ◌∙◌}
 use mathlib.Core.Bool.{false}
 use mathlib.Core.List.{List}

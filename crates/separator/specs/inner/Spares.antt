@@ -62,7 +62,7 @@ pub record Cut (s out into : ℕ) (before after : List ℕ) : Type 0 where
   pub size : length after ≡ 64
   pub word : (k : ℕ) → k < 64 → row after k ≡ cut_row s out into k (row before k)
 
--- What `spare_stations` says of the level s: whether it allows something, and then that the rule strikes the legs that the cut takes out. Left open are the
+-- What `Level::spares` says of the level s: whether it allows something, and then that the rule strikes the legs that the cut takes out. Left open are the
 -- stations of `out` and `into` without a leg inside s: nothing depends on these.
 pub record SparesOf (n : ℕ) (t : List ℕ) (s : ℕ) (r : Option Spares) : Type 0 where
   pub verdict : is_some r ≡ passable n s (marking n t s)
