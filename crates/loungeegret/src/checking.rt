@@ -4,6 +4,7 @@ ghost use Rattle.loungeegret.specs.Words.{loaded};
 ghost use Rattle.loungeegret.specs.Results.{CheckResult};
 
 use crate::words::{NO_STATE, STATE_WORDS, load};
+use circuit::check_list_in;
 
 // Writes 1 through `yes` where the list is a round whose legs all stand, and else 0.
 #[unsafe(no_mangle)]
@@ -13,7 +14,9 @@ pub extern "C" fn loungeegret_check_list(state: &[u64], list: &[u8], yes: &mut u
     let Some(state) = state.first_chunk::<STATE_WORDS>() else {
         return NO_STATE;
     };
-    let checked = load(state).check_list(list);
+    let work = load(state);
+    // Of its parts, so that the state is not copied once more.
+    let checked = check_list_in(&work.table.rows, work.n, work.limit, work.place, list);
     *yes = checked.yes as u8;
     checked.answer.number()
 }
