@@ -1,2 +1,2 @@
--- What the commands of a script take.
-pub mod Taken
+-- What the functions of the program promise each other.
+pub mod inner

@@ -1,6 +1,6 @@
 // The commands of a script.
 ghost use Rattle.std.specs.Prelude.{◌≡◌, ◌+◌, ◌≤◌, length, IfSome};
-ghost use Rattle.cases.specs.Taken.{rule_size, Takes};
+ghost use Rattle.cases.specs.inner.Taken.{rule_size, Takes};
 
 use crate::room::Room;
 use crate::script::Script;

@@ -27,7 +27,7 @@ mod script;
 mod shown;
 
 ghost use Rattle.std.specs.Prelude.{◌≡◌, ◌≢◌, ◌≤◌, length, IfSome};
-ghost use Rattle.cases.specs.Taken.{Takes};
+ghost use Rattle.cases.specs.inner.Taken.{Takes};
 
 use circuit::Work;
 use command::Command;

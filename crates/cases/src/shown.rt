@@ -61,6 +61,7 @@ fn digit(x: u8) -> u8
 }
 
 // The digits of a group of bytes, or of fewer.
+// By hand: through `{:02x}` a byte at a time this took 3.3 times the time, and the program does little else.
 fn digits(bytes: &[u8]) -> [u8; 2 * GROUP]
     requires { length bytes.now ≤ GROUP }
     ensures { IsAscii result }

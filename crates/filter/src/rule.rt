@@ -74,7 +74,7 @@ pub(crate) fn take_on(rule: Rule, net: &mut Network, limit: usize) -> Taken
     }
 }
 
-// The pass on the rows alone. They are written only where a leg went: most passes strike nothing.
+// The pass on the rows alone. They are written only where a leg went.
 fn pass_rows(rows: &mut [u64; 64], n: usize, limit: usize, seed: usize) -> Taken
     requires { (n ≤ 64) × (seed < n) × (stray n rows.old ≡ false) }
     ensures { RowsLeft n (pass n rows.old limit seed) result rows.old rows.new }

@@ -4,11 +4,12 @@ use mathlib.Core.Path.{◌≡◌, refl, sym, ap, ap₂, ◌∙◌}
 use mathlib.Core.Logic.{inl, inr, ⊎_elim}
 use mathlib.Core.Bool.{true, false}
 use mathlib.Core.List.{List, [], ◌++◌, append-nil}
-use Prim.Native.Nat.{ℕ, ◌≤◌, zero-le}
+use Prim.Native.Nat.{ℕ, ◌+◌, ◌≤◌, zero-le}
 use Prim.Native.String.{String}
 use native.Mathlib.Omega.{arith}
 use lib.Count.{ones}
 use lib.Dec.{eqb}
+use lib.ListN.{length, length-append}
 use borrow.Author.Tests.{eq-eqb, ne_eqb, eqb-true}
 use Rattle.bitset.proofs.BoolLaws.{cases, cond_true, cond_false, cond_elim}
 use Rattle.bitset.specs.Sets.{sum}
@@ -57,6 +58,12 @@ ran_fields r = ascii "steps " ++ decimal r.steps ++ ascii " removed " ++ decimal
 pub ran_line_lem : (r : Ran) → ran_fields r ++ ascii " end " ++ ascii (word r.work.end) ++ ascii "\n" ≡ ran_line r
 unfolding steps_line
 ran_line_lem r = refl
+
+pub ran_size : (r : Ran) → length (ran_line r) ≡ length (ran_fields r) + length (ascii (word r.work.end)) + 6
+ran_size r = ap length (sym (ran_line_lem r)) ∙ three (ran_fields r) (ascii " end ") (ascii (word r.work.end)) (ascii "\n") (omega arith) (omega arith)
+  where
+    three : (a b c d : List ℕ) → length b ≡ 5 → length d ≡ 1 → length (a ++ b ++ c ++ d) ≡ length a + length c + 6
+    three a b c d p q = omega (arith, length-append (a ++ b ++ c) d, length-append (a ++ b) c, length-append a b)
 
 shown_lines : (w : Work) → lines_from (shown w) 0 (rows_of w) ≡ station_lines w
 unfolding station_lines text lines_from

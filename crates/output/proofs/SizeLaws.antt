@@ -1,13 +1,13 @@
 -- How long the program's text is, and that the first 1,154 bytes of the input decide it. Assumes nothing.
 use mathlib.Core.Path.{◌≡◌, ap}
-use mathlib.Core.List.{List, []}
-use Prim.Native.Nat.{ℕ, ◌≤◌, zero-le}
+use mathlib.Core.List.{List, [], ◌++◌}
+use Prim.Native.Nat.{ℕ, ◌^◌, ◌≤◌, ◌<◌, zero-le}
 use native.Mathlib.Omega.{arith}
 use lib.Dec.{eqb}
 use lib.ListN.{length, take, length-append, length-take}
 use borrow.Author.Tests.{eqb-true}
 use Rattle.bitset.proofs.BoolLaws.{cond_elim}
-use Rattle.writer.specs.Text.{ascii}
+use Rattle.writer.specs.Text.{ascii, decimal}
 use Rattle.writer.proofs.NumberLaws.{decimal_length}
 use Rattle.circuit.specs.declared.card.End.{End}
 use Rattle.circuit.specs.declared.card.End.TheVariants.{Open, Stable, None}
@@ -92,6 +92,13 @@ unfolding refused_line
 refused_most k at a b =
     let number = decimal_length 1 k (omega arith) in
     let place = decimal_length 3 at (omega arith) in
+    simp length-append (omega arith)
+
+-- any number at any place
+pub refused_fits : (k at : ℕ) → k < 2 ^ 64 → at < 2 ^ 64 → length (ascii "refused " ++ decimal k ++ ascii " at " ++ decimal at) ≤ 52
+refused_fits k at a b =
+    let number = decimal_length 19 k (omega arith) in
+    let place = decimal_length 19 at (omega arith) in
     simp length-append (omega arith)
 
 -- ---- both

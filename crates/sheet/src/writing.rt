@@ -45,7 +45,7 @@ fn record_len(fields: Fields) -> usize
 
 // The record: its map, and its field.
 // By hand, no Writer, here, in `put_records` and in `put_sheet`: as a station's line, a record is lent what is left of the buffer, and its writer
-// says how many bytes it filled (docs/CLAIMS.md, W-204).
+// says how many bytes it filled (docs/CLAIMS.md, the sheet sent back).
 fn put_record(buf: &mut [u8], fields: Fields) -> usize
     requires { length (entry_bytes (said fields) []) ≤ length buf.old }
     ensures { Wrote (entry_bytes (said fields) []) buf.old buf.new result }

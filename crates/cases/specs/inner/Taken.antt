@@ -11,7 +11,8 @@ rule_size Sweep = 0
 rule_size Chain = 0
 rule_size (Pass seed) = 8
 
--- so many bytes of the script are left before and after the command was read, its opcode apart; how many rows a table was given in, a command doesn't tell
+-- `old` and `new` bytes of the script are left before and after a command is read, its opcode apart. Of a work state and a cut step the number is not
+-- told: the command does not keep how many rows were given.
 abbrev pub Takes : Command → ℕ → ℕ → Type 0
 Takes (Open limit sheet) old new = new + 10 + length sheet.now ≡ old
 Takes (Set work) old new = new ≤ old

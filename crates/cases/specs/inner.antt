@@ -1,0 +1,2 @@
+-- What the commands of a script take.
+pub mod Taken
